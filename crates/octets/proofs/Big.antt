@@ -1,0 +1,100 @@
+-- Laws of big-endian numbers in octets, over any width: a number splits where its octets do, so a wide one is made of narrow ones.
+-- Assumes nothing.
+use mathlib.Core.Path.{_≡_, refl, _∙_}
+use Prim.Native.Nat.{ℕ, zero, suc, _+_, _*_, _/_, _%_, _^_, _≤_, _<_}
+use native.Mathlib.Nat.{add-zero, add-suc, add-assoc, add-mul, mul-assoc, mul-one, pow-zero, pow-suc, pow-succ', div-one, div-div-eq-div-mul, mod-one, one-le-pow, mod-lt}
+use native.Mathlib.Omega.{arith}
+use mathlib.Core.List.{List, [], _∷_, _++_, append-nil, append-assoc}
+use lib.ListN.{length, getD, length-append, List·getD-eq-default, List·getD-append}
+use lib.Seq.{getD-append-add, getD-at}
+use lib.Arith.{digits-lt, digits-div, digits-mod, mod-mul}
+use Rattle.octets.specs.Big.{bigAt, bigOf}
+
+-- ---- a number read at a place
+
+-- the number of v + w octets: that of the first v, then that of the w after them
+pub bigAt-add : (v w : ℕ) (s : List ℕ) (at : ℕ) → bigAt (v + w) s at ≡ bigAt v s at * 256 ^ w + bigAt w s (at + v)
+unfolding bigAt
+bigAt-add v zero s at = simp (add-zero, pow-zero, mul-one)
+bigAt-add v (suc w) s at = simp (add-suc, bigAt-add v w s at, pow-suc, add-mul, mul-assoc, add-assoc)
+
+-- one octet is its own number
+pub bigAt-one : (s : List ℕ) (at : ℕ) → bigAt 1 s at ≡ getD s at 0
+unfolding bigAt
+bigAt-one s at = rw add-zero (omega arith)
+
+-- nothing stands at or past the end
+pub bigAt-end : (w : ℕ) (s : List ℕ) (at : ℕ) → length s ≤ at → bigAt w s at ≡ 0
+unfolding bigAt
+bigAt-end zero s at h = refl
+bigAt-end (suc w) s at h = rw (bigAt-end w s at h, List·getD-eq-default s 0 {n = at + w} (omega arith))
+
+-- octets make a number below the width's power
+pub bigAt-lt : (w : ℕ) (s : List ℕ) (at : ℕ) → ((i : ℕ) → getD s i 0 < 256) → bigAt w s at < 256 ^ w
+unfolding bigAt
+bigAt-lt zero s at h = omega (arith, pow-zero 256)
+bigAt-lt (suc w) s at h = rw pow-suc (digits-lt (bigAt-lt w s at h) (h (at + w)))
+
+-- ---- a number as octets
+
+pos : 0 < 256
+pos = omega arith
+
+-- the low w + 1 octets of a number: the low w of those above the lowest, then the lowest
+mod-step : (w n : ℕ) → n % (256 ^ w * 256) ≡ n / 256 % 256 ^ w * 256 + n % 256
+mod-step w n = mod-mul n (one-le-pow w 256 pos) pos
+
+-- there are w of them
+pub length-bigOf : (w n : ℕ) → length (bigOf w n) ≡ w
+unfolding bigOf
+length-bigOf zero n = refl
+length-bigOf (suc w) n = simp (length-append, length-bigOf w (n / 256)) (omega arith)
+
+-- one octet is the lowest
+pub bigOf-one : (n : ℕ) → bigOf 1 n ≡ n % 256 ∷ []
+unfolding bigOf
+bigOf-one n = refl
+
+-- v + w octets: the high v, then the low w
+pub bigOf-add : (v w n : ℕ) → bigOf (v + w) n ≡ bigOf v (n / 256 ^ w) ++ bigOf w n
+unfolding bigOf
+bigOf-add v zero n = simp (add-zero, pow-zero, div-one, append-nil)
+bigOf-add v (suc w) n = simp (add-suc, bigOf-add v w (n / 256), pow-succ', div-div-eq-div-mul, append-assoc)
+
+-- only the low w octets of the number count
+pub bigOf-mod : (w n : ℕ) → bigOf w (n % 256 ^ w) ≡ bigOf w n
+unfolding bigOf
+bigOf-mod zero n = refl
+bigOf-mod (suc w) n =
+    rw (pow-suc, mod-step w n, digits-div (n / 256 % 256 ^ w) (mod-lt n pos), digits-mod (n / 256 % 256 ^ w) (mod-lt n pos), bigOf-mod w (n / 256))
+
+-- ---- what is put reads back
+
+-- a number past the first of two lists
+pub bigAt-append-add : (w : ℕ) (xs ys : List ℕ) (at : ℕ) → bigAt w (xs ++ ys) (length xs + at) ≡ bigAt w ys at
+unfolding bigAt
+bigAt-append-add zero xs ys at = refl
+bigAt-append-add (suc w) xs ys at = simp (bigAt-append-add w xs ys at, add-assoc, getD-append-add)
+
+-- a number within the first of two lists
+pub bigAt-append-le : (w : ℕ) (xs ys : List ℕ) (at : ℕ) → at + w ≤ length xs → bigAt w (xs ++ ys) at ≡ bigAt w xs at
+unfolding bigAt
+bigAt-append-le zero xs ys at h = refl
+bigAt-append-le (suc w) xs ys at h =
+    rw (bigAt-append-le w xs ys at (omega arith), List·getD-append xs ys 0 (at + w) (omega arith))
+
+-- the octets of a number make the number, as far as they go
+pub bigAt-bigOf : (w n : ℕ) → bigAt w (bigOf w n) 0 ≡ n % 256 ^ w
+unfolding bigAt bigOf
+bigAt-bigOf zero n = simp (pow-zero, mod-one)
+bigAt-bigOf (suc w) n =
+    let l : length (bigOf w (n / 256)) ≡ 0 + w = omega (arith, length-bigOf w (n / 256)) in
+    rw (bigAt-append-le w (bigOf w (n / 256)) (n % 256 ∷ []) 0 (omega arith), getD-at (bigOf w (n / 256)) (n % 256) [] 0 (0 + w) l)
+    (rw (bigAt-bigOf w (n / 256), pow-suc, mod-step w n))
+
+-- the same in the midst of a longer list
+pub bigAt-put : (w n : ℕ) (xs ys : List ℕ) → bigAt w (xs ++ bigOf w n ++ ys) (length xs) ≡ n % 256 ^ w
+bigAt-put w n xs ys =
+    rw append-assoc (rw add-zero at (bigAt-append-add w xs (bigOf w n ++ ys) 0))
+    ∙ bigAt-append-le w (bigOf w n) ys 0 (omega (arith, length-bigOf w n))
+    ∙ bigAt-bigOf w n

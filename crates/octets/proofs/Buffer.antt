@@ -1,0 +1,251 @@
+-- Laws of a lent buffer that is overwritten from its front, or at a place: what comes after is put where the last put ended.
+-- Assumes nothing.
+use mathlib.Core.Path.{_≡_, refl, sym, _∙_}
+use mathlib.Core.Logic.{⊎-elim}
+use Prim.Native.Nat.{ℕ, zero, suc, _+_, _-_, _/_, _%_, _^_, _≤_, _<_}
+use native.Mathlib.Nat.{zero-add, add-assoc, sub-zero, add-sub-of-le, sub-eq-zero-of-le}
+use native.Mathlib.Numerals.{add-one}
+use native.Mathlib.Omega.{arith}
+use mathlib.Core.Bool.{_&&_}
+use mathlib.Core.List.{List, [], _∷_, _++_, append-nil, append-assoc}
+use lib.ListN.{length, getD, set, take, drop, replicate, length-append, length-drop, length-take, length-set, length-replicate, drop-of-length-le, List·getD-eq-default, List·getD-append}
+use lib.Seq.{take-append-seam, drop-append-seam, set-append-seam, drop-append-add, drop-drop, drop-cons, set-split, set-out, length-take-le, take-at, drop-at, set-append-left, getD-drop, getD-take, ext-getD}
+use lib.Dec.{T, eqb, eqb→eq}
+use borrow.Author.Tests.{le-leb, lt-leb}
+use Rattle.octets.specs.Buffer.{over, putAt, zerosFrom, padded}
+use Rattle.octets.specs.Big.{bigAt, bigOf}
+use Rattle.octets.proofs.Choice.{le-or-lt, every-getD, getD-every, every-replicate}
+use Rattle.octets.proofs.Big.{length-bigOf, bigOf-add, bigAt-put}
+
+-- ---- a buffer overwritten from its front
+
+-- nothing put leaves the buffer alone
+pub over-nil : (s : List ℕ) → over [] s ≡ s
+unfolding over
+over-nil s = refl
+
+-- octets that fit leave the length as it was
+pub length-over : (xs s : List ℕ) → length xs ≤ length s → length (over xs s) ≡ length s
+unfolding over
+length-over xs s h = simp (length-append, length-drop) (omega arith)
+
+-- the octets stand in front
+pub take-over : (xs s : List ℕ) → take (length xs) (over xs s) ≡ xs
+unfolding over
+take-over xs s = take-append-seam xs (drop (length xs) s)
+
+-- what stood past them is left alone
+pub drop-over : (xs s : List ℕ) → drop (length xs) (over xs s) ≡ drop (length xs) s
+unfolding over
+drop-over xs s = drop-append-seam xs (drop (length xs) s)
+
+-- the part past the first octets is overwritten by the next
+pub over-then : (xs ys s : List ℕ) → take (length xs) (over xs s) ++ over ys (drop (length xs) (over xs s)) ≡ over (xs ++ ys) s
+over-then xs ys s = rw (take-over, drop-over) (unfold over in simp (length-append, drop-drop, append-assoc))
+
+-- a store just past the octets
+pub set-over : (xs s : List ℕ) (y : ℕ) → length xs < length s → set (over xs s) (length xs) y ≡ over (xs ++ (y ∷ [])) s
+unfolding over
+set-over xs s y h =
+    rw (drop-cons s (length xs) 0, set-append-seam, length-append, add-one, append-assoc)
+
+-- ---- octets put at a place
+
+-- they fit: what stands before the place, the octets, what stood past them
+pub putAt-fits : (s : List ℕ) (at : ℕ) (xs : List ℕ) → at + length xs ≤ length s → putAt s at xs ≡ take at s ++ xs ++ drop (at + length xs) s
+unfolding putAt over
+putAt-fits s at xs h = simp (le-leb (at + length xs) (length s) h, drop-drop, append-assoc)
+
+-- they do not fit: nothing is put
+pub putAt-no-room : (s : List ℕ) (at : ℕ) (xs : List ℕ) → length s < at + length xs → putAt s at xs ≡ s
+unfolding putAt
+putAt-no-room s at xs h = rw (lt-leb (at + length xs) (length s) h)
+
+-- what holds of the buffer where they fit, and where they do not, holds of it
+pub putAt-cases {κ} : (P : List ℕ → Type κ) (s : List ℕ) (at : ℕ) (xs : List ℕ)
+    → (at + length xs ≤ length s → P (take at s ++ xs ++ drop (at + length xs) s)) → (length s < at + length xs → P s) → P (putAt s at xs)
+putAt-cases P s at xs f g =
+    ⊎-elim (λ h. rw (putAt-fits s at xs h) (f h)) (λ h. rw (putAt-no-room s at xs h) (g h)) (le-or-lt (at + length xs) (length s))
+
+-- the length stays
+pub length-putAt : (s : List ℕ) (at : ℕ) (xs : List ℕ) → length (putAt s at xs) ≡ length s
+length-putAt s at xs =
+    putAt-cases (λ r. length r ≡ length s) s at xs (λ h. simp (length-append, length-take, length-drop) (omega arith)) (λ h. refl)
+
+-- one octet is a store
+pub putAt-one : (s : List ℕ) (at y : ℕ) → putAt s at (y ∷ []) ≡ set s at y
+putAt-one s at y =
+    putAt-cases (λ r. r ≡ set s at y) s at (y ∷ [])
+    (λ h. rw (set-split s at y (omega arith), add-one, append-assoc))
+    (λ h. sym (set-out s at y (omega arith)))
+
+-- what stands before the place is left alone
+pub take-putAt : (s : List ℕ) (at : ℕ) (xs : List ℕ) → take at (putAt s at xs) ≡ take at s
+take-putAt s at xs =
+    putAt-cases (λ r. take at r ≡ take at s) s at xs
+    (λ h. rw append-assoc (take-at (take at s) (xs ++ drop (at + length xs) s) at (length-take-le at s (omega arith))))
+    (λ h. refl)
+
+-- the octets and what stands before them are as long as the place and they say
+length-put : (s : List ℕ) (at : ℕ) (xs : List ℕ) → at + length xs ≤ length s → length (take at s ++ xs) ≡ at + length xs
+length-put s at xs h = simp (length-append, length-take-le at s (omega arith))
+
+-- what stands past the octets is left alone
+pub drop-putAt : (s : List ℕ) (at : ℕ) (xs : List ℕ) → drop (at + length xs) (putAt s at xs) ≡ drop (at + length xs) s
+drop-putAt s at xs =
+    putAt-cases (λ r. drop (at + length xs) r ≡ drop (at + length xs) s) s at xs
+    (λ h. drop-at (take at s ++ xs) (drop (at + length xs) s) (at + length xs) (length-put s at xs h))
+    (λ h. refl)
+
+-- octets put just past the last ones
+pub putAt-then : (s : List ℕ) (at : ℕ) (xs ys : List ℕ) → at + length xs + length ys ≤ length s
+    → putAt (putAt s at xs) (at + length xs) ys ≡ putAt s at (xs ++ ys)
+putAt-then s at xs ys h =
+    let l : length (take at s ++ xs) ≡ at + length xs = length-put s at xs (omega arith) in
+    rw (putAt-fits s at xs (omega arith), putAt-fits s at (xs ++ ys) (simp length-append (omega arith)))
+    (rw (putAt-fits (take at s ++ xs ++ drop (at + length xs) s) (at + length xs) ys (simp (length-append, length-take, length-drop) (omega arith)))
+    (rw (take-at (take at s ++ xs) (drop (at + length xs) s) (at + length xs) l, ← l, drop-append-add, l)
+    (simp (drop-drop, length-append, append-assoc, add-assoc))))
+
+-- a store just past the last ones
+pub set-putAt : (s : List ℕ) (at : ℕ) (xs : List ℕ) (y : ℕ) → at + length xs < length s
+    → set (putAt s at xs) (at + length xs) y ≡ putAt s at (xs ++ (y ∷ []))
+set-putAt s at xs y h = rw (← putAt-one) (putAt-then s at xs (y ∷ []) (omega arith))
+
+-- a buffer overwritten from its front has the octets put at its start
+pub over-putAt : (xs s : List ℕ) → length xs ≤ length s → over xs s ≡ putAt s 0 xs
+unfolding over
+over-putAt xs s h = rw (putAt-fits s 0 xs (omega arith), zero-add)
+
+-- octets put just past those that it is overwritten by
+pub putAt-over : (xs ys s : List ℕ) → length xs + length ys ≤ length s → putAt (over xs s) (length xs) ys ≡ over (xs ++ ys) s
+putAt-over xs ys s h =
+    rw (over-putAt xs s (omega arith), over-putAt (xs ++ ys) s (simp length-append h))
+    (rw zero-add at (putAt-then s 0 xs ys (omega arith)))
+
+-- ---- a number put at a place
+
+-- v + w octets: the high v, then the low w just past them
+pub putAt-bigOf-add : (v w : ℕ) (s : List ℕ) (at n : ℕ) → at + v + w ≤ length s
+    → putAt (putAt s at (bigOf v (n / 256 ^ w))) (at + v) (bigOf w n) ≡ putAt s at (bigOf (v + w) n)
+putAt-bigOf-add v w s at n h =
+    rw (bigOf-add v w n) (rw length-bigOf at (putAt-then s at (bigOf v (n / 256 ^ w)) (bigOf w n) (simp length-bigOf h)))
+
+-- what is put reads back
+pub bigAt-putAt : (w : ℕ) (s : List ℕ) (at n : ℕ) → at + w ≤ length s → bigAt w (putAt s at (bigOf w n)) at ≡ n % 256 ^ w
+bigAt-putAt w s at n h =
+    rw (putAt-fits s at (bigOf w n) (simp length-bigOf h))
+    (rw (length-take-le at s (omega arith)) at (bigAt-put w n (take at s) (drop (at + length (bigOf w n)) s)))
+
+-- ---- zeros to the end
+
+-- nothing stands at or past the end
+pub zerosFrom-end : (s : List ℕ) (at : ℕ) → length s ≤ at → T (zerosFrom s at)
+unfolding zerosFrom
+zerosFrom-end s at h = rw (drop-of-length-le s h) tt
+
+-- how a loop that goes up tests them
+pub zerosFrom-step : (s : List ℕ) (at : ℕ) → at < length s → zerosFrom s at ≡ (eqb (getD s at 0) 0 && zerosFrom s (at + 1))
+unfolding zerosFrom
+zerosFrom-step s at h = rw (add-one, drop-cons s at 0 h)
+
+-- each octet from the place on is zero
+pub zerosFrom-getD : (s : List ℕ) (at i : ℕ) → T (zerosFrom s at) → at ≤ i → getD s i 0 ≡ 0
+unfolding zerosFrom
+zerosFrom-getD s at i t h =
+    ⊎-elim
+    (λ l. List·getD-eq-default s 0 l)
+    (λ (l : i < length s). eqb→eq (getD s i 0) 0
+    (rw (getD-drop, add-sub-of-le h) at (every-getD (λ (x : ℕ). eqb x 0) (drop at s) (i - at) 0 t (rw length-drop (omega arith)))))
+    (le-or-lt (length s) i)
+
+-- where each is zero, the test holds
+pub getD-zerosFrom : (s : List ℕ) (at : ℕ) → ((i : ℕ) → at ≤ i → i < length s → getD s i 0 ≡ 0) → T (zerosFrom s at)
+unfolding zerosFrom
+getD-zerosFrom s at h =
+    getD-every (λ (x : ℕ). eqb x 0) (drop at s) 0
+    (λ i l. rw (getD-drop, h (at + i) (omega arith) (omega (arith, length-drop at s))) tt)
+
+-- what is put in front leaves the zeros past it alone
+pub zerosFrom-over : (xs s : List ℕ) → zerosFrom (over xs s) (length xs) ≡ zerosFrom s (length xs)
+unfolding zerosFrom
+zerosFrom-over xs s = rw drop-over
+
+-- ---- a list filled up to n elements
+
+getD-replicate-self {ℓ} : {A : Type ℓ} (k i : ℕ) (a : A) → getD (replicate k a) i a ≡ a
+getD-replicate-self zero i a = refl
+getD-replicate-self (suc k) zero a = refl
+getD-replicate-self (suc k) (suc i) a = getD-replicate-self k i a
+
+getD-append-replicate {ℓ} : {A : Type ℓ} (xs : List A) (k i : ℕ) (a : A) → getD (xs ++ replicate k a) i a ≡ getD xs i a
+getD-append-replicate [] k i a = getD-replicate-self k i a
+getD-append-replicate (x ∷ xs) k zero a = refl
+getD-append-replicate (x ∷ xs) k (suc i) a = getD-append-replicate xs k i a
+
+module _ {ℓ} {A : Type ℓ} (n : ℕ) (a : A) where
+  -- from nothing
+  pub padded-nil : padded n a [] ≡ replicate n a
+  unfolding padded
+  padded-nil = rw sub-zero
+
+  -- a list that is full already
+  pub padded-full : (xs : List A) → n ≤ length xs → padded n a xs ≡ xs
+  unfolding padded
+  padded-full xs h = rw (sub-eq-zero-of-le h) (append-nil xs)
+
+  -- elements that fit make n of them
+  pub length-padded : (xs : List A) → length xs ≤ n → length (padded n a xs) ≡ n
+  unfolding padded
+  length-padded xs h = simp (length-append, length-replicate) (omega arith)
+
+  -- the elements stand in front
+  pub take-padded : (xs : List A) → take (length xs) (padded n a xs) ≡ xs
+  unfolding padded
+  take-padded xs = take-append-seam xs (replicate (n - length xs) a)
+
+  -- past them it is filled up
+  pub drop-padded : (xs : List A) → drop (length xs) (padded n a xs) ≡ replicate (n - length xs) a
+  unfolding padded
+  drop-padded xs = drop-append-seam xs (replicate (n - length xs) a)
+
+  -- an index among the elements
+  pub getD-padded-below : (xs : List A) (i : ℕ) (d : A) → i < length xs → getD (padded n a xs) i d ≡ getD xs i d
+  unfolding padded
+  getD-padded-below xs i d h = List·getD-append xs (replicate (n - length xs) a) d i h
+
+  -- what fills it up is the default
+  pub getD-padded : (xs : List A) (i : ℕ) → getD (padded n a xs) i a ≡ getD xs i a
+  unfolding padded
+  getD-padded xs i = getD-append-replicate xs (n - length xs) i a
+
+  -- an index past them
+  pub getD-padded-past : (xs : List A) (i : ℕ) → length xs ≤ i → getD (padded n a xs) i a ≡ a
+  getD-padded-past xs i h = getD-padded xs i ∙ List·getD-eq-default xs a h
+
+  -- a store just past the elements
+  pub set-padded : (xs : List A) (y : A) → length xs < n → set (padded n a xs) (length xs) y ≡ padded n a (xs ++ (y ∷ []))
+  unfolding padded
+  set-padded xs y h =
+      let e : n - length xs ≡ suc (n - (length xs + 1)) = omega arith in
+      rw (e, set-append-seam, length-append, append-assoc)
+
+  -- a store among them
+  pub set-padded-below : (xs : List A) (i : ℕ) (y : A) → i < length xs → set (padded n a xs) i y ≡ padded n a (set xs i y)
+  unfolding padded
+  set-padded-below xs i y h = rw (set-append-left xs (replicate (n - length xs) a) i y h, length-set)
+
+-- zeros fill up a list of octets
+pub zerosFrom-padded : (n : ℕ) (xs : List ℕ) → T (zerosFrom (padded n 0 xs) (length xs))
+unfolding zerosFrom
+zerosFrom-padded n xs = rw (drop-padded n 0 xs) (every-replicate (λ (x : ℕ). eqb x 0) (n - length xs) 0 tt)
+
+-- a buffer with zeros from a place on is what stands before it, filled up
+pub padded-zerosFrom : (s : List ℕ) (at : ℕ) → T (zerosFrom s at) → at ≤ length s → padded (length s) 0 (take at s) ≡ s
+padded-zerosFrom s at t h =
+    let l : length (take at s) ≡ at = length-take-le at s h in
+    ext-getD 0 (padded (length s) 0 (take at s)) s (length-padded (length s) 0 (take at s) (omega arith))
+    (λ i _. getD-padded (length s) 0 (take at s) i ∙ ⊎-elim (past i) (λ before. getD-take at s i 0 before) (le-or-lt at i))
+  where
+    past : (i : ℕ) → at ≤ i → getD (take at s) i 0 ≡ getD s i 0
+    past i h′ = rw (List·getD-eq-default (take at s) 0 {n = i} (omega (arith, length-take-le at s h)), zerosFrom-getD s at i t h′)

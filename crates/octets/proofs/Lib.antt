@@ -1,0 +1,4 @@
+pub mod Choice
+pub mod Big
+pub mod Buffer
+pub mod Text

@@ -1,0 +1,5 @@
+pub mod Choice
+pub mod Big
+pub mod Buffer
+pub mod Text
+pub mod Promises
