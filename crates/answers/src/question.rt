@@ -1,0 +1,91 @@
+// One function for each question: takes it from a case's octets, asks, and puts the answer at the front of out.
+use super::value;
+use sheet::Found;
+use sheet::Senders;
+ghost use Prim.Native.Nat.{_≤_};
+
+fn put_bool(out: &mut [u8], at: usize, b: bool) {
+    value::put_octet(out, at, if b { 1 } else { 0 });
+}
+
+// Puts a seat: 1 and its number; 0 and 0 for nobody.
+fn put_found(out: &mut [u8], found: Found) -> usize
+    ensures { λ r. ⌜ r ≤ 1020 ⌝ }
+{
+    match found {
+        Found::Seat(s) => octets::put_u16(out, 0, 256 + (s as u16)),
+        Found::Nobody => octets::put_u16(out, 0, 0),
+    }
+    2
+}
+
+// 1: what a text reads to, and its User IDs: a value, the octets used (eight), the refusal's number and place (four each).
+pub fn read(text: &[u8], out: &mut [u8]) -> usize
+    ensures { λ r. ⌜ r ≤ 1020 ⌝ }
+{
+    let reading = sheet::read(text);
+    let read = reading.sheet;
+    let used = reading.used;
+    let refusal = reading.refusal;
+    let users = sheet::users(text);
+    value::put_sheet(out, read);
+    value::put_users(out, &users);
+    octets::put_u32(out, value::LENGTH, (used / 4294967296) as u32);
+    octets::put_u32(out, value::LENGTH + 4, (used % 4294967296) as u32);
+    octets::put_u32(out, value::LENGTH + 8, refusal.number);
+    octets::put_u32(out, value::LENGTH + 12, refusal.at);
+    value::LENGTH + 16
+}
+
+// 2: whether some sheet reads to a value's numbers; and to the whole value.
+pub fn valid(body: &[u8], out: &mut [u8]) -> usize
+    ensures { λ r. ⌜ r ≤ 1020 ⌝ }
+{
+    let sheet = value::sheet_in(body);
+    let users = value::users_in(body);
+    put_bool(out, 0, sheet::valid(sheet));
+    put_bool(out, 1, sheet::valid_with(sheet, &users));
+    2
+}
+
+// 3: whose SSRC it is that follows a value.
+pub fn by_ssrc(body: &[u8], out: &mut [u8]) -> usize
+    ensures { λ r. ⌜ r ≤ 1020 ⌝ }
+{
+    let sheet = value::sheet_in(body);
+    let ssrcs = sheet.ssrcs;
+    let ssrc = octets::u32_at(body, value::LENGTH);
+    put_found(
+        out,
+        sheet::find::by_ssrc(
+            Senders {
+                seats: sheet.seats,
+                ssrcs,
+            },
+            ssrc,
+        ),
+    )
+}
+
+// 4: whose User ID it is that follows a value.
+pub fn by_user(body: &[u8], out: &mut [u8]) -> usize
+    ensures { λ r. ⌜ r ≤ 1020 ⌝ }
+{
+    if body.len() < value::LENGTH {
+        return 0;
+    }
+    let sheet = value::sheet_in(body);
+    let users = value::users_in(body);
+    put_found(
+        out,
+        sheet::find::by_user(sheet.seats, &users, &body[value::LENGTH..]),
+    )
+}
+
+// 5: whether a body can be a User ID.
+pub fn is_user_id(body: &[u8], out: &mut [u8]) -> usize
+    ensures { λ r. ⌜ r ≤ 1020 ⌝ }
+{
+    put_bool(out, 0, sheet::user::is_user_id(body));
+    1
+}

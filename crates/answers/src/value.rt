@@ -1,0 +1,133 @@
+// A sheet's value among the octets of a case or an answer: its eleven numbers and eight SSRCs, four octets each, then its
+// eight rows of User IDs.
+use sheet::Sheet;
+ghost use Prim.Native.Nat.{_<_};
+
+// Where the User IDs begin.
+const ROWS: usize = 76;
+
+// How many octets a value takes.
+pub const LENGTH: usize = ROWS + 480;
+
+fn octet_at(body: &[u8], at: usize) -> u8 {
+    if at < body.len() { body[at] } else { 0 }
+}
+
+fn number_in(body: &[u8], k: usize) -> u32
+    requires { ⌜ k < 19 ⌝ }
+{
+    octets::u32_at(body, k * 4)
+}
+
+fn ssrcs_in(body: &[u8]) -> [u32; 8] {
+    [
+        number_in(body, 11),
+        number_in(body, 12),
+        number_in(body, 13),
+        number_in(body, 14),
+        number_in(body, 15),
+        number_in(body, 16),
+        number_in(body, 17),
+        number_in(body, 18),
+    ]
+}
+
+// The sheet of the value at the front of a body.
+pub fn sheet_in(body: &[u8]) -> Sheet {
+    let ssrcs = ssrcs_in(body);
+    Sheet {
+        server: number_in(body, 0),
+        limit: number_in(body, 1),
+        request: number_in(body, 2),
+        response: number_in(body, 3),
+        endrequest: number_in(body, 4),
+        endresponse: number_in(body, 5),
+        txend: number_in(body, 6),
+        txendresponse: number_in(body, 7),
+        ack: number_in(body, 8),
+        resultid: number_in(body, 9),
+        seats: number_in(body, 10),
+        ssrcs,
+    }
+}
+
+fn row_in(body: &[u8], s: usize) -> [u8; 60]
+    requires { ⌜ s < 8 ⌝ }
+{
+    let mut row = [0u8; 60];
+    let mut i = 0;
+    while i < 60 {
+        row[i] = octet_at(body, ROWS + s * 60 + i);
+        i += 1;
+    }
+    row
+}
+
+// The User IDs of the value at the front of a body.
+pub fn users_in(body: &[u8]) -> [[u8; 60]; 8] {
+    [
+        row_in(body, 0),
+        row_in(body, 1),
+        row_in(body, 2),
+        row_in(body, 3),
+        row_in(body, 4),
+        row_in(body, 5),
+        row_in(body, 6),
+        row_in(body, 7),
+    ]
+}
+
+fn put_number(out: &mut [u8], k: usize, n: u32)
+    requires { ⌜ k < 19 ⌝ }
+{
+    octets::put_u32(out, k * 4, n)
+}
+
+// Puts the numbers of the messages.
+fn put_messages(out: &mut [u8], sheet: Sheet) {
+    put_number(out, 2, sheet.request);
+    put_number(out, 3, sheet.response);
+    put_number(out, 4, sheet.endrequest);
+    put_number(out, 5, sheet.endresponse);
+    put_number(out, 6, sheet.txend);
+    put_number(out, 7, sheet.txendresponse);
+    put_number(out, 8, sheet.ack);
+}
+
+fn put_ssrcs(out: &mut [u8], ssrcs: [u32; 8]) {
+    put_number(out, 11, ssrcs[0]);
+    put_number(out, 12, ssrcs[1]);
+    put_number(out, 13, ssrcs[2]);
+    put_number(out, 14, ssrcs[3]);
+    put_number(out, 15, ssrcs[4]);
+    put_number(out, 16, ssrcs[5]);
+    put_number(out, 17, ssrcs[6]);
+    put_number(out, 18, ssrcs[7]);
+}
+
+// Puts a sheet's numbers at the front of out.
+pub fn put_sheet(out: &mut [u8], sheet: Sheet) {
+    let ssrcs = sheet.ssrcs;
+    put_number(out, 0, sheet.server);
+    put_number(out, 1, sheet.limit);
+    put_messages(out, sheet);
+    put_number(out, 9, sheet.resultid);
+    put_number(out, 10, sheet.seats);
+    put_ssrcs(out, ssrcs);
+}
+
+// Puts one octet at a place, where there is room.
+pub fn put_octet(out: &mut [u8], at: usize, octet: u8) {
+    if at < out.len() {
+        out[at] = octet;
+    }
+}
+
+// Puts the User IDs behind the numbers.
+pub fn put_users(out: &mut [u8], users: &[[u8; 60]; 8]) {
+    let mut i = 0;
+    while i < 480 {
+        put_octet(out, ROWS + i, users[i / 60][i % 60]);
+        i += 1;
+    }
+}

@@ -1,0 +1,174 @@
+-- Laws on the reading: a text reads to entries exactly if they are a sheet's and the text begins with theirs. Assumes nothing.
+use mathlib.Core.Path.{_≡_, refl, sym, ap, _∙_, subst}
+use mathlib.Core.Logic.{_⊎_, inl, inr, ⊎-elim}
+use mathlib.Core.Bool.{Bool, true, false, _&&_}
+use mathlib.Core.List.{List, [], _∷_, _++_, append-nil, append-assoc}
+use Prim.Native.Nat.{ℕ, zero, suc, _+_, _≤_, _<_}
+use native.Mathlib.Nat.{le-refl}
+use native.Mathlib.Numerals.{add-one}
+use native.Mathlib.Omega.{arith}
+use lib.ListN.{length, drop, length-append}
+use lib.Seq.{drop-append-seam}
+use lib.Dec.{T}
+use Rattle.octets.specs.Choice.{begins}
+use Rattle.octets.proofs.Choice.{T-true, true-T, T-false, false-T, decide, T-and, T-and-left, T-and-right, begins-append, begins-split}
+use Rattle.sheet.specs.Table.{rowAt}
+use Rattle.sheet.specs.Line.{Entry, lineOf, entryIn, textFrom, textOf}
+use Rattle.sheet.specs.Judge.{numbersIn, good, inTurn, whole, valid}
+use Rattle.sheet.specs.Reading.{Outcome, reads, refused, goodLine, behind, readBy, outcome}
+use Rattle.sheet.proofs.Judged.{good-shaped, numbersIn-append, whole-front}
+use Rattle.sheet.proofs.Lines.{entry-line, line-pos}
+
+-- ---- one line
+
+-- the entry in the line at the front of a text
+abbrev pub entryAt : List Entry → List ℕ → Entry
+entryAt b s = entryIn (rowAt (length b)) s
+
+pub goodLine-good : (b : List Entry) (s : List ℕ) → T (goodLine b s) → T (good b (entryAt b s))
+unfolding goodLine
+goodLine-good b s t = T-and-right (begins (lineOf (rowAt (length b)) (entryAt b s)) s) (good b (entryAt b s)) t
+
+pub goodLine-split : (b : List Entry) (s : List ℕ) → T (goodLine b s) → s ≡ lineOf (rowAt (length b)) (entryAt b s) ++ behind b s
+unfolding goodLine behind
+goodLine-split b s t =
+    begins-split (lineOf (rowAt (length b)) (entryAt b s)) s
+    (T-and-left (begins (lineOf (rowAt (length b)) (entryAt b s)) s) (good b (entryAt b s)) t)
+
+module _ (b : List Entry) (e : Entry) (u : List ℕ) (g : T (good b e)) where
+  pub entryAt-line : entryAt b (lineOf (rowAt (length b)) e ++ u) ≡ e
+  entryAt-line = entry-line (rowAt (length b)) e u (good-shaped b e g)
+
+  pub goodLine-line : T (goodLine b (lineOf (rowAt (length b)) e ++ u))
+  unfolding goodLine
+  goodLine-line =
+      rw entryAt-line
+      (T-and (begins (lineOf (rowAt (length b)) e) (lineOf (rowAt (length b)) e ++ u)) (good b e) (begins-append (lineOf (rowAt (length b)) e) u) g)
+
+  pub behind-line : behind b (lineOf (rowAt (length b)) e ++ u) ≡ u
+  unfolding behind
+  behind-line = rw entryAt-line (drop-append-seam (lineOf (rowAt (length b)) e) u)
+
+-- ---- readBy: one line after the other
+
+pub readBy-whole : (f : ℕ) (b : List Entry) (s : List ℕ) → whole (numbersIn b) ≡ true → readBy f b s ≡ reads b
+unfolding readBy
+readBy-whole zero b s w = rw w
+readBy-whole (suc f) b s w = rw w
+
+pub readBy-none : (b : List Entry) (s : List ℕ) → whole (numbersIn b) ≡ false → readBy zero b s ≡ refused (length b + 1)
+unfolding readBy
+readBy-none b s w = rw w
+
+pub readBy-bad : (f : ℕ) (b : List Entry) (s : List ℕ) → whole (numbersIn b) ≡ false → goodLine b s ≡ false → readBy f b s ≡ refused (length b + 1)
+unfolding readBy
+readBy-bad zero b s w g = rw w
+readBy-bad (suc f) b s w g = rw (w, g)
+
+pub readBy-good : (f : ℕ) (b : List Entry) (s : List ℕ) → whole (numbersIn b) ≡ false → goodLine b s ≡ true
+    → readBy (suc f) b s ≡ readBy f (b ++ (entryAt b s ∷ [])) (behind b s)
+unfolding readBy
+readBy-good f b s w g = rw (w, g)
+
+-- what is behind a line is shorter
+pub length-behind : (b : List Entry) (s : List ℕ) → T (goodLine b s) → length (behind b s) < length s
+length-behind b s t =
+    let l : length s ≡ length (lineOf (rowAt (length b)) (entryAt b s)) + length (behind b s) =
+      ap length (goodLine-split b s t) ∙ length-append (lineOf (rowAt (length b)) (entryAt b s)) (behind b s) in
+    omega (arith, line-pos (rowAt (length b)) (entryAt b s))
+
+pub length-snoc : (b : List Entry) (e : Entry) → length (b ++ (e ∷ [])) ≡ suc (length b)
+length-snoc b e = length-append b (e ∷ []) ∙ add-one (length b)
+
+-- ---- what was read
+
+-- what was read from b on: more good entries, whose text the text begins with, up to a whole sheet
+pub record ReadOn (b : List Entry) (s : List ℕ) (es : List Entry) : Type 0 where
+  pub more : List Entry
+  pub rest : List ℕ
+  pub all : es ≡ b ++ more
+  pub good : T (inTurn good b more)
+  pub whole : T (Rattle.sheet.specs.Judge.whole (numbersIn es))
+  pub text : s ≡ textFrom (length b) more ++ rest
+
+read-more : (b : List Entry) (s : List ℕ) (es : List Entry) → T (goodLine b s) → ReadOn (b ++ (entryAt b s ∷ [])) (behind b s) es → ReadOn b s es
+unfolding textFrom inTurn
+read-more b s es t r =
+    record {
+      more = entryAt b s ∷ r .more;
+      rest = r .rest;
+      all = r .all ∙ append-assoc b (entryAt b s ∷ []) (r .more);
+      good = T-and (good b (entryAt b s)) (inTurn good (b ++ (entryAt b s ∷ [])) (r .more)) (goodLine-good b s t) (r .good);
+      whole = r .whole;
+      text =
+        goodLine-split b s t
+        ∙ ap (λ (x : List ℕ). lineOf (rowAt (length b)) (entryAt b s) ++ x) (rw (length-snoc b (entryAt b s)) at (r .text))
+        ∙ sym (append-assoc (lineOf (rowAt (length b)) (entryAt b s)) (textFrom (suc (length b)) (r .more)) (r .rest))
+    }
+
+-- at a whole sheet, at a bad line, or at a good one
+module _ (b : List Entry) (s : List ℕ) (es : List Entry) where
+  read-whole : (f : ℕ) → readBy f b s ≡ reads es → T (whole (numbersIn b)) → ReadOn b s es
+  unfolding textFrom inTurn
+  read-whole f p w =
+      let q : es ≡ b = cc (readBy-whole f b s (T-true (whole (numbersIn b)) w)) in
+      record { more = []; rest = s; all = q ∙ sym (append-nil b); good = tt; whole = rw q w; text = refl }
+
+  read-bad : (f : ℕ) → readBy f b s ≡ reads es → whole (numbersIn b) ≡ false → goodLine b s ≡ false → ⊥
+  read-bad f p w g = let z : _≡_ {A = ℕ} 0 1 = cc (readBy-bad f b s w g) in omega arith
+
+read-on : (f : ℕ) (b : List Entry) (s : List ℕ) (es : List Entry) → readBy f b s ≡ reads es → ReadOn b s es
+read-on zero b s es p =
+    ⊎-elim (λ w. read-whole b s es zero p w)
+    (λ w. let z : _≡_ {A = ℕ} 0 1 = cc (readBy-none b s w) in absurd (omega arith))
+    (decide (whole (numbersIn b)))
+read-on (suc f) b s es p =
+    ⊎-elim (λ w. read-whole b s es (suc f) p w)
+    (λ w. ⊎-elim
+    (λ g. read-more b s es g (read-on f (b ++ (entryAt b s ∷ [])) (behind b s) es (sym (readBy-good f b s w (T-true (goodLine b s) g)) ∙ p)))
+    (λ g. absurd (read-bad b s es (suc f) p w g))
+    (decide (goodLine b s)))
+    (decide (whole (numbersIn b)))
+
+-- ---- what is read
+
+-- a good entry's line takes the reading on
+pub read-line : (f : ℕ) (b : List Entry) (e : Entry) (v : List ℕ) → T (good b e) → whole (numbersIn b) ≡ false
+    → readBy (suc f) b (lineOf (rowAt (length b)) e ++ v) ≡ readBy f (b ++ (e ∷ [])) v
+read-line f b e v g w =
+    rw (readBy-good f b (lineOf (rowAt (length b)) e ++ v) w (T-true (goodLine b (lineOf (rowAt (length b)) e ++ v)) (goodLine-line b e v g)), entryAt-line b e v g, behind-line b e v g)
+
+read-back : (more : List Entry) (f : ℕ) (b : List Entry) (u : List ℕ) → T (inTurn good b more) → T (whole (numbersIn (b ++ more)))
+    → length (textFrom (length b) more ++ u) ≤ f → readBy f b (textFrom (length b) more ++ u) ≡ reads (b ++ more)
+unfolding textFrom inTurn
+read-back [] f b u t w h = rw (append-nil b) (readBy-whole f b u (T-true (whole (numbersIn b)) (rw (append-nil b) at w)))
+read-back (e ∷ es) zero b u t w h =
+    let l : length ((lineOf (rowAt (length b)) e ++ textFrom (suc (length b)) es) ++ u) ≡ length (lineOf (rowAt (length b)) e) + length (textFrom (suc (length b)) es) + length u =
+      simp length-append in
+    absurd (omega (arith, line-pos (rowAt (length b)) e))
+read-back (e ∷ es) (suc f) b u t w h =
+    let line = lineOf (rowAt (length b)) e in
+    let v = textFrom (suc (length b)) es ++ u in
+    let g : T (good b e) = T-and-left (good b e) (inTurn good (b ++ (e ∷ [])) es) t in
+    let w′ : T (whole (numbersIn ((b ++ (e ∷ [])) ++ es))) = rw (append-assoc b (e ∷ []) es) w in
+    let a : (line ++ textFrom (suc (length b)) es) ++ u ≡ line ++ v = append-assoc line (textFrom (suc (length b)) es) u in
+    let l : length (line ++ v) ≡ length line + length v = length-append line v in
+    let h′ : length (line ++ v) ≤ suc f = rw a at h in
+    let ih : readBy f (b ++ (e ∷ [])) v ≡ reads ((b ++ (e ∷ [])) ++ es) =
+      rw (length-snoc b e) at (read-back es f (b ++ (e ∷ [])) u (T-and-right (good b e) (inTurn good (b ++ (e ∷ [])) es) t) w′ (rw (length-snoc b e) (omega (arith, line-pos (rowAt (length b)) e)))) in
+    rw (a, read-line f b e v g (whole-front (numbersIn b) (e .number) (numbersIn es) (rw (numbersIn-append b (e ∷ es)) at w)), ih, append-assoc b (e ∷ []) es)
+
+-- ---- which texts read
+
+pub outcome-reads : (t : List ℕ) (es : List Entry) → outcome t ≡ reads es → T (valid es) × ((u : List ℕ) × (t ≡ textOf es ++ u))
+unfolding outcome valid textOf
+outcome-reads t es p =
+    let r = read-on (length t) [] t es p in
+    ( T-and (inTurn good [] es) (whole (numbersIn es)) (rw (r .all) (r .good)) (r .whole)
+    , (r .rest, r .text ∙ ap (λ (x : List Entry). textFrom 0 x ++ r .rest) (sym (r .all)))
+    )
+
+pub reads-outcome : (es : List Entry) (u : List ℕ) → T (valid es) → outcome (textOf es ++ u) ≡ reads es
+unfolding outcome valid textOf
+reads-outcome es u t =
+    read-back es (length (textFrom 0 es ++ u)) [] u (T-and-left (inTurn good [] es) (whole (numbersIn es)) t) (T-and-right (inTurn good [] es) (whole (numbersIn es)) t) (le-refl _)

@@ -1,0 +1,74 @@
+-- `sheet::number::is_taken` meets its contract. The invariant: the number is taken just if it is on the lines from j on.
+-- Assumes nothing.
+use mathlib.Core.Path.{_≡_, refl, sym, _∙_}
+use mathlib.Core.Logic.{⊎-elim}
+use Prim.Native.Nat.{_-_}
+use borrow.Author.Needs.{needs}
+use native.Mathlib.Omega.{arith}
+use lib.ListN.{length, drop}
+use Rattle.sheet.specs.Judge.{taken}
+use Rattle.sheet.proofs.NumberLaws.{taken-here, taken-skip, taken-end}
+use Rattle.sheet.proofs.number.is_taken.Statement.{statement}
+use Rattle.sheet.proofs.number.is_taken.Tie as tie
+
+abbrev Inv-loop : tie.InvT-loop
+Inv-loop earlier family n j₀ j = taken family n 0 earlier ≡ taken family n j (drop j earlier)
+
+abbrev μ-loop : tie.MeasureT-loop
+μ-loop earlier family n j₀ j = length earlier - j
+
+loop-holds : tie.Need-loop-holds Inv-loop μ-loop
+loop-holds c = refl
+
+family-of-requires : tie.Need-family-of-requires Inv-loop μ-loop
+family-of-requires c κs = search needs
+
+mul-if2 : tie.Need-mul-if2 Inv-loop μ-loop
+mul-if2 c = search needs
+
+shared-slice-read-if2 : tie.Need-shared-slice-read-if2 Inv-loop μ-loop
+shared-slice-read-if2 c = search needs
+
+returns : tie.Need-returns Inv-loop μ-loop
+returns c =
+    let in-loop = c .before .before .before .before in
+    let l = in-loop .before .loop in
+    let a = in-loop .before .before .before .args in
+    let p = sym (c .before .before .before .family-of .ensures) ∙ c .before .before .if1 .taken in
+    sym (l .inv ∙ taken-here (a .family) (a .n) (a .earlier .now) (l .j) (in-loop .loop-test .taken) p (c .if2 .taken))
+
+add-j : tie.Need-add-j Inv-loop μ-loop
+add-j c = omega arith
+
+loop-less : tie.Need-loop-less Inv-loop μ-loop
+loop-less c = omega arith
+
+loop-again : tie.Need-loop-again Inv-loop μ-loop
+loop-again c =
+    let in-loop = c .before .before in
+    let l = in-loop .before .loop in
+    let a = in-loop .before .before .before .args in
+    l .inv
+    ∙ taken-skip (a .family) (a .n) (a .earlier .now) (l .j) (in-loop .loop-test .taken)
+    (λ p q. ⊎-elim (λ w. w .2 .left q) (λ w. w .left (c .before .family-of .ensures ∙ p)) (c .if1 .came))
+
+returns-2 : tie.Need-returns-2 Inv-loop μ-loop
+returns-2 c =
+    let a = c .before .before .before .args in
+    sym (c .before .loop .inv ∙ taken-end (a .family) (a .n) (a .earlier .now) (c .before .loop .j) (c .loop-test .left))
+
+pub is-taken-spec : {M : Type 1} → statement M
+is-taken-spec =
+    tie.close
+    (tie.spec
+    Inv-loop
+    μ-loop
+    loop-holds
+    family-of-requires
+    mul-if2
+    shared-slice-read-if2
+    returns
+    add-j
+    loop-less
+    loop-again
+    returns-2)

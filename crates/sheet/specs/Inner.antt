@@ -1,0 +1,98 @@
+-- What the inner functions say of the lines and rows that they look at. The public promises rest on these, and nobody need
+-- believe them: each is only a step of a proof. Assumes nothing.
+use mathlib.Core.Path.{_≡_}
+use Prim.Native.Nat.{ℕ, _+_, _-_, _≤_, _<_, min}
+use mathlib.Core.Bool.{Bool, true, false, not, _&&_}
+use mathlib.Core.List.{List, [], _∷_, _++_}
+use mathlib.Core.Option.{Option, none, some}
+use lib.ListN.{length, getD, take, drop}
+use lib.Dec.{T, leb, eqb}
+use Rattle.octets.specs.Choice.{pick, begins, front}
+use Rattle.octets.specs.Buffer.{zerosFrom}
+use Rattle.sheet.specs.declared.Sheet.{Sheet}
+use Rattle.sheet.specs.declared.line.Line.{Line}
+use Rattle.sheet.specs.declared.line.Line.the-variants.{Good, Bad}
+use Rattle.sheet.specs.declared.line.Rest.{Rest}
+use Rattle.sheet.specs.declared.line.Rest.the-variants.{Good as GoodTail, Bad as BadTail}
+use Rattle.sheet.specs.Table.{Row, rowAt, numberLines}
+use Rattle.sheet.specs.Line.{Entry, visible, tailOf, lineOf, entryIn}
+use Rattle.sheet.specs.Judge.{goodNumber, userId}
+use Rattle.sheet.specs.Value.{nameOf}
+use Rattle.sheet.specs.Find.{seatOfUser}
+
+-- numbers are told apart as far as this
+abbrev pub cap : ℕ
+cap = 4294967296
+
+-- a name stands from place a up to place e, where its line's LF stands
+pub record NameAt (t : List ℕ) (a e : ℕ) (name : List ℕ) : Type 0 where
+  pub from : a ≤ e
+  pub within : e < length t
+  pub octets : take (e - a) (drop a t) ≡ name
+
+-- the User ID behind a number, where the row has one
+abbrev pub tailName : Row → List ℕ → List ℕ
+tailName r s = pick (r .named) (front visible (drop 1 s)) []
+
+unfoldable pub TailIs : List ℕ → ℕ → Row → Rest → Type 0
+TailIs t at r (GoodTail a e) =
+    T (begins (tailOf r (tailName r (drop at t))) (drop at t))
+    × NameAt t a e (tailName r (drop at t))
+    × (e + 1 ≡ at + length (tailOf r (tailName r (drop at t))))
+TailIs t at r BadTail = begins (tailOf r (tailName r (drop at t))) (drop at t) ≡ false
+
+unfoldable pub LineIs : List ℕ → ℕ → Row → Line → Type 0
+LineIs t at r (Good n a e) =
+    T (begins (lineOf r (entryIn r (drop at t))) (drop at t))
+    × (n ≡ min (entryIn r (drop at t) .number) cap)
+    × NameAt t a e (entryIn r (drop at t) .name)
+    × (e + 1 ≡ at + length (lineOf r (entryIn r (drop at t))))
+LineIs t at r Bad = begins (lineOf r (entryIn r (drop at t))) (drop at t) ≡ false
+
+abbrev pub isNone : Option ℕ → Bool
+isNone none = true
+isNone (some n) = false
+
+-- a name that can be a User ID and that none of the first seats has
+unfoldable pub newName : ℕ → List (List ℕ) → List ℕ → Bool
+newName seats users name = userId name && isNone (seatOfUser seats users name)
+
+-- a row as it has to be under so many seats: a new name and zeros, or zeros alone
+unfoldable pub goodRow : ℕ → List (List ℕ) → ℕ → Bool
+goodRow seats users s =
+    let row = getD users s [] in
+    zerosFrom row (length (nameOf row))
+    && pick (leb seats s) (eqb (length (nameOf row)) 0) (newName s users (nameOf row))
+
+-- line k is good behind lines with these numbers and these User IDs
+unfoldable pub goodAt : List ℕ → ℕ → ℕ → List ℕ → List (List ℕ) → Bool
+goodAt t at k numbers users =
+    let e = entryIn (rowAt k) (drop at t) in
+    begins (lineOf (rowAt k) e) (drop at t)
+    && (goodNumber (take k numbers) (e .number) && pick (leb numberLines k) (newName (k - numberLines) users (e .name)) true)
+
+unfoldable pub JudgedIs : List ℕ → ℕ → ℕ → List ℕ → List (List ℕ) → Line → Type 0
+JudgedIs t at k numbers users (Good n a e) =
+    T (goodAt t at k numbers users)
+    × (n ≡ entryIn (rowAt k) (drop at t) .number)
+    × NameAt t a e (entryIn (rowAt k) (drop at t) .name)
+    × (e + 1 ≡ at + length (lineOf (rowAt k) (entryIn (rowAt k) (drop at t))))
+JudgedIs t at k numbers users Bad = goodAt t at k numbers users ≡ false
+
+-- nineteen numbers as a sheet
+unfoldable pub layoutOf : List ℕ → Sheet
+layoutOf n =
+    record {
+      server = getD n 0 0;
+      limit = getD n 1 0;
+      request = getD n 2 0;
+      response = getD n 3 0;
+      endrequest = getD n 4 0;
+      endresponse = getD n 5 0;
+      txend = getD n 6 0;
+      txendresponse = getD n 7 0;
+      ack = getD n 8 0;
+      resultid = getD n 9 0;
+      seats = getD n 10 0;
+      ssrcs = drop 11 n
+    }

@@ -1,0 +1,9 @@
+pub mod Table
+pub mod Line
+pub mod Judge
+pub mod Reading
+pub mod Value
+pub mod Find
+pub mod Inner
+pub mod Promises
+pub mod Claims

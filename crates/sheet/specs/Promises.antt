@@ -1,0 +1,72 @@
+-- What each public function promises, one predicate a function, NAME≡: the equation that its answer meets, for every input.
+-- Beside it, NAME-once: no second answer meets it. Assumes nothing.
+use mathlib.Core.Path.{_≡_, refl, ap}
+use Prim.Native.Nat.{ℕ}
+use mathlib.Core.Bool.{Bool}
+use mathlib.Core.List.{List}
+use mathlib.Core.Option.{Option, none, some}
+use Rattle.octets.specs.Promises.{one-answer, one-value}
+use Rattle.sheet.specs.declared.Sheet.{Sheet}
+use Rattle.sheet.specs.declared.Reading.{Reading}
+use Rattle.sheet.specs.declared.Senders.{Senders}
+use Rattle.sheet.specs.declared.Found.{Found}
+use Rattle.sheet.specs.declared.Found.the-variants.{Seat, Nobody}
+use Rattle.sheet.specs.Judge.{userId}
+use Rattle.sheet.specs.Value.{readOf, usersIn, validAlone, validWith}
+use Rattle.sheet.specs.Find.{foundSaid, seatOfSsrc, seatOfUser}
+
+-- the value and the octets used, or 12 with its line
+abbrev pub read≡ : List ℕ → Reading → Type 0
+read≡ text r = r ≡ readOf text
+
+pub read-once : (text : List ℕ) (x y : Reading) → read≡ text x → read≡ text y → x ≡ y
+read-once text x y p q = one-value x y p q
+
+-- the User IDs of the same sheet, all zeros beside a refusal
+abbrev pub users≡ : List ℕ → List (List ℕ) → Type 0
+users≡ text r = r ≡ usersIn text
+
+pub users-once : (text : List ℕ) (x y : List (List ℕ)) → users≡ text x → users≡ text y → x ≡ y
+users-once text x y p q = one-value x y p q
+
+-- some sheet reads to this struct
+abbrev pub valid≡ : Sheet → Bool → Type 0
+valid≡ sheet r = r ≡ validAlone sheet
+
+pub valid-once : (sheet : Sheet) (x y : Bool) → valid≡ sheet x → valid≡ sheet y → x ≡ y
+valid-once sheet x y p q = one-value x y p q
+
+-- some sheet reads to this struct and these User IDs
+abbrev pub valid-with≡ : Sheet → List (List ℕ) → Bool → Type 0
+valid-with≡ sheet users r = r ≡ validWith sheet users
+
+pub valid-with-once : (sheet : Sheet) (users : List (List ℕ)) (x y : Bool) → valid-with≡ sheet users x → valid-with≡ sheet users y → x ≡ y
+valid-with-once sheet users x y p q = one-value x y p q
+
+-- these octets can be a User ID
+abbrev pub is-user-id≡ : List ℕ → Bool → Type 0
+is-user-id≡ name r = r ≡ userId name
+
+pub is-user-id-once : (name : List ℕ) (x y : Bool) → is-user-id≡ name x → is-user-id≡ name y → x ≡ y
+is-user-id-once name x y p q = one-value x y p q
+
+-- two answers that say the same are the same
+pub found-apart : (x y : Found) → foundSaid x ≡ foundSaid y → x ≡ y
+found-apart (Seat s) (Seat t) p = cc
+found-apart (Seat s) Nobody p = cc
+found-apart Nobody (Seat t) p = cc
+found-apart Nobody Nobody p = refl
+
+-- the seat with this SSRC
+abbrev pub by-ssrc≡ : Senders → ℕ → Found → Type 0
+by-ssrc≡ senders ssrc r = foundSaid r ≡ seatOfSsrc (senders .seats) (senders .ssrcs) ssrc
+
+pub by-ssrc-once : (senders : Senders) (ssrc : ℕ) (x y : Found) → by-ssrc≡ senders ssrc x → by-ssrc≡ senders ssrc y → x ≡ y
+by-ssrc-once senders ssrc x y p q = one-answer foundSaid found-apart x y p q
+
+-- the seat with this User ID
+abbrev pub by-user≡ : ℕ → List (List ℕ) → List ℕ → Found → Type 0
+by-user≡ seats users name r = foundSaid r ≡ seatOfUser seats users name
+
+pub by-user-once : (seats : ℕ) (users : List (List ℕ)) (name : List ℕ) (x y : Found) → by-user≡ seats users name x → by-user≡ seats users name y → x ≡ y
+by-user-once seats users name x y p q = one-answer foundSaid found-apart x y p q

@@ -1,0 +1,50 @@
+-- Reading a call sheet (document 01, "Call sheet" and refusal 12): the lines are judged in order, each against the lines
+-- before it, and the first bad or missing one is named. Assumes nothing.
+use Prim.Native.Nat.{ℕ, zero, suc, _+_}
+use mathlib.Core.Bool.{Bool, _&&_}
+use mathlib.Core.List.{List, [], _∷_, _++_}
+use lib.ListN.{length, drop}
+use lib.Dec.{eqb}
+use Rattle.octets.specs.Choice.{pick, begins}
+use Rattle.sheet.specs.Table.{rowAt}
+use Rattle.sheet.specs.Line.{Entry, lf, lineOf, entryIn}
+use Rattle.sheet.specs.Judge.{good, whole, numbersIn}
+
+-- a sheet's entries, or the number of its first bad or missing line, from 1
+pub data Outcome : Type 0 where
+  reads : List Entry → Outcome
+  refused : ℕ → Outcome
+
+-- the text begins with a good line: that of the entry in it
+unfoldable pub goodLine : List Entry → List ℕ → Bool
+goodLine before s =
+    let r = rowAt (length before) in
+    begins (lineOf r (entryIn r s)) s && good before (entryIn r s)
+
+-- what is left of a text behind its line
+unfoldable pub behind : List Entry → List ℕ → List ℕ
+behind before s =
+    let r = rowAt (length before) in
+    drop (length (lineOf r (entryIn r s))) s
+
+-- the lines behind those of the entries before; the first argument bounds how many more are read
+unfoldable pub readBy : ℕ → List Entry → List ℕ → Outcome
+readBy zero before s = pick (whole (numbersIn before)) (reads before) (refused (length before + 1))
+readBy (suc f) before s =
+    let more = readBy f (before ++ (entryIn (rowAt (length before)) s ∷ [])) (behind before s) in
+    pick (whole (numbersIn before)) (reads before) (pick (goodLine before s) more (refused (length before + 1)))
+
+-- a text has no more lines than octets
+unfoldable pub outcome : List ℕ → Outcome
+outcome t = readBy (length t) [] t
+
+-- ---- the lines of any text
+
+-- a line: "what stands up to and with its LF", or what is left without one
+unfoldable pub firstLine : List ℕ → List ℕ
+firstLine [] = []
+firstLine (c ∷ cs) = pick (eqb c lf) (c ∷ []) (c ∷ firstLine cs)
+
+unfoldable pub lines : ℕ → List ℕ → List (List ℕ)
+lines zero t = []
+lines (suc k) t = firstLine t ∷ lines k (drop (length (firstLine t)) t)

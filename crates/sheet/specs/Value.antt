@@ -1,0 +1,122 @@
+-- The value of a call sheet: the struct and the User IDs beside it (document 01, "Call sheet": "Each user's identity is held
+-- at fixed width, eight rows of 60 octets, unused octets zero, unused SSRCs 0"). Assumes nothing.
+use Prim.Native.Nat.{ℕ, zero, suc}
+use mathlib.Core.Bool.{Bool, true, false, not, _&&_}
+use mathlib.Core.List.{List, [], _∷_, _++_, map}
+use lib.ListN.{length, getD, take, drop, replicate}
+use lib.Dec.{eqb}
+use Rattle.octets.specs.Choice.{same, front}
+use Rattle.octets.specs.Buffer.{padded}
+use Rattle.sheet.specs.declared.Sheet.{Sheet}
+use Rattle.sheet.specs.declared.Refusal.{Refusal}
+use Rattle.sheet.specs.declared.Reading.{Reading}
+use Rattle.sheet.specs.Table.{numberLines, mostSeats}
+use Rattle.sheet.specs.Line.{Entry, longestName, textOf}
+use Rattle.sheet.specs.Judge.{numbersIn, namesIn, goodNumber, inTurn, valid, whole}
+use Rattle.sheet.specs.Reading.{Outcome, reads, refused, outcome}
+
+-- ---- the entries laid out as a value
+
+-- the numbers in the table's order, then the SSRCs of the seats
+unfoldable pub sheetFrom : List ℕ → Sheet
+sheetFrom ns =
+    record {
+      server = getD ns 0 0;
+      limit = getD ns 1 0;
+      request = getD ns 2 0;
+      response = getD ns 3 0;
+      endrequest = getD ns 4 0;
+      endresponse = getD ns 5 0;
+      txend = getD ns 6 0;
+      txendresponse = getD ns 7 0;
+      ack = getD ns 8 0;
+      resultid = getD ns 9 0;
+      seats = getD ns 10 0;
+      ssrcs = padded mostSeats 0 (drop numberLines ns)
+    }
+
+unfoldable pub sheetOf : List Entry → Sheet
+sheetOf es = sheetFrom (numbersIn es)
+
+-- a User ID at fixed width
+unfoldable pub rowOf : List ℕ → List ℕ
+rowOf name = padded longestName 0 name
+
+unfoldable pub usersOf : List Entry → List (List ℕ)
+usersOf es = padded mostSeats (rowOf []) (map rowOf (drop numberLines (namesIn es)))
+
+-- ---- the entries that a value stands for
+
+unfoldable pub numbersOf : Sheet → List ℕ
+numbersOf s =
+    s .server
+    ∷ s .limit
+    ∷ s .request
+    ∷ s .response
+    ∷ s .endrequest
+    ∷ s .endresponse
+    ∷ s .txend
+    ∷ s .txendresponse
+    ∷ s .ack
+    ∷ s .resultid
+    ∷ s .seats
+    ∷ []
+
+-- the User ID in a row: what stands before its first zero
+unfoldable pub nameOf : List ℕ → List ℕ
+nameOf row = front (λ (c : ℕ). not (eqb c 0)) row
+
+abbrev pub alone : ℕ → Entry
+alone n = record { number = n; name = [] }
+
+unfoldable pub seatEntries : List ℕ → List (List ℕ) → List Entry
+seatEntries [] users = []
+seatEntries (n ∷ ns) [] = []
+seatEntries (n ∷ ns) (row ∷ users) = record { number = n; name = nameOf row } ∷ seatEntries ns users
+
+unfoldable pub entriesOf : Sheet → List (List ℕ) → List Entry
+entriesOf s users = map alone (numbersOf s) ++ seatEntries (take (s .seats) (s .ssrcs)) users
+
+-- ---- which values are a sheet's
+
+unfoldable pub sameRows : List (List ℕ) → List (List ℕ) → Bool
+sameRows [] [] = true
+sameRows [] (y ∷ ys) = false
+sameRows (x ∷ xs) [] = false
+sameRows (x ∷ xs) (y ∷ ys) = same x y && sameRows xs ys
+
+-- the entries that it stands for are a sheet's, and laid out they are the value itself: nothing stands in unused places
+unfoldable pub validWith : Sheet → List (List ℕ) → Bool
+validWith s users =
+    let es = entriesOf s users in
+    valid es && (same (s .ssrcs) (sheetOf es .ssrcs) && sameRows users (usersOf es))
+
+-- the numbers alone
+unfoldable pub validAlone : Sheet → Bool
+validAlone s =
+    let ns = numbersOf s ++ take (s .seats) (s .ssrcs) in
+    inTurn goodNumber [] ns && (whole ns && same (s .ssrcs) (sheetFrom ns .ssrcs))
+
+-- ---- what reading gives
+
+abbrev pub noRefusal : Refusal
+noRefusal = record { number = 0; at = 0 }
+
+-- "12: sheet, with the number of its first bad or missing line, from 1"
+abbrev pub badLine : ℕ → Refusal
+badLine k = record { number = 12; at = k }
+
+-- the value and "how many octets were used"; beside a refusal everything is zero
+unfoldable pub readingOf : Outcome → Reading
+readingOf (reads es) = record { sheet = sheetOf es; used = length (textOf es); refusal = noRefusal }
+readingOf (refused k) = record { sheet = sheetOf []; used = 0; refusal = badLine k }
+
+unfoldable pub usersFrom : Outcome → List (List ℕ)
+usersFrom (reads es) = usersOf es
+usersFrom (refused k) = usersOf []
+
+unfoldable pub readOf : List ℕ → Reading
+readOf t = readingOf (outcome t)
+
+unfoldable pub usersIn : List ℕ → List (List ℕ)
+usersIn t = usersFrom (outcome t)

@@ -1,0 +1,44 @@
+// Whose SSRC and whose User ID it is, among the seats on the sheet alone.
+use super::Found;
+use super::Senders;
+use super::seat::has_name;
+ghost use Rattle.sheet.specs.Promises.{by-ssrc≡, by-user≡};
+
+// The seat on the sheet with this SSRC.
+pub fn by_ssrc(senders: Senders, ssrc: u32) -> Found
+    ensures { λ r. ⌜ by-ssrc≡ senders ssrc r ⌝ }
+{
+    let seats = senders.seats;
+    let ssrcs = senders.ssrcs;
+    let mut s: u8 = 0;
+    while s < 8 {
+        if seats <= (s as u32) {
+            return Found::Nobody;
+        }
+        let x = ssrcs[s as usize];
+        if x == ssrc {
+            return Found::Seat(s);
+        }
+        s += 1;
+    }
+    Found::Nobody
+}
+
+// The seat on the sheet with this User ID.
+pub fn by_user(seats: u32, users: &[[u8; 60]; 8], name: &[u8]) -> Found
+    ensures { λ r. ⌜ by-user≡ seats (now (users .entry)) (now (name .entry)) r ⌝ }
+{
+    let rows = &users[..];
+    let mut s: u8 = 0;
+    while s < 8 {
+        if seats <= (s as u32) {
+            return Found::Nobody;
+        }
+        let i = s as usize;
+        if has_name(&rows[i][..], name) {
+            return Found::Seat(s);
+        }
+        s += 1;
+    }
+    Found::Nobody
+}

@@ -1,0 +1,98 @@
+// The User IDs of the seats, at fixed width: a row holds a User ID and then zeros (document 01, "Call sheet").
+use super::Found;
+use super::find::by_user;
+use super::user::is_user_id;
+ghost use mathlib.Core.Path.{_≡_};
+ghost use Prim.Native.Nat.{_<_, _≤_};
+ghost use lib.ListN.{length};
+ghost use Rattle.octets.specs.Choice.{same};
+ghost use Rattle.octets.specs.Buffer.{over, zerosFrom};
+ghost use Rattle.sheet.specs.Value.{nameOf};
+ghost use Rattle.sheet.specs.Inner.{newName, goodRow};
+
+// How many octets a row's User ID has: those before its first zero.
+fn name_length(row: &[u8]) -> usize
+    ensures { λ r. ⌜ r ≡ length (nameOf (now (row .entry))) ⌝ }
+{
+    let mut i = 0;
+    while i < row.len() {
+        if row[i] == 0 {
+            return i;
+        }
+        i += 1;
+    }
+    i
+}
+
+// Whether a row's User ID is this name.
+pub fn has_name(row: &[u8], name: &[u8]) -> bool
+    ensures { λ r. ⌜ r ≡ same (nameOf (now (row .entry))) (now (name .entry)) ⌝ }
+{
+    if name_length(row) != name.len() {
+        return false;
+    }
+    let mut i = 0;
+    while i < name.len() {
+        if row[i] != name[i] {
+            return false;
+        }
+        i += 1;
+    }
+    true
+}
+
+// Whether every octet of a row from a place on is zero.
+fn zeros_from(row: &[u8], at: usize) -> bool
+    ensures { λ r. ⌜ r ≡ zerosFrom (now (row .entry)) at ⌝ }
+{
+    let mut i = at;
+    while i < row.len() {
+        if row[i] != 0 {
+            return false;
+        }
+        i += 1;
+    }
+    true
+}
+
+// Whether a name can be a User ID and none of the first seats has it.
+pub fn is_new_name(users: &[[u8; 60]; 8], seats: u32, name: &[u8]) -> bool
+    ensures { λ r. ⌜ r ≡ newName seats (now (users .entry)) (now (name .entry)) ⌝ }
+{
+    if !is_user_id(name) {
+        return false;
+    }
+    let found = by_user(seats, users, name);
+    match found {
+        Found::Seat(_) => false,
+        Found::Nobody => true,
+    }
+}
+
+// Whether row s is as it has to be under so many seats: a new name and zeros, or zeros alone.
+pub fn is_good_row(users: &[[u8; 60]; 8], s: usize, seats: u32) -> bool
+    requires { ⌜ s < 8 ⌝ }
+    ensures { λ r. ⌜ r ≡ goodRow seats (now (users .entry)) s ⌝ }
+{
+    let row = &users[s][..];
+    let n = name_length(row);
+    if !zeros_from(row, n) {
+        return false;
+    }
+    if seats <= (s as u32) {
+        return n == 0;
+    }
+    is_new_name(users, s as u32, &row[..n])
+}
+
+// Puts a name into the front of a row.
+pub fn keep(row: &mut [u8], name: &[u8])
+    requires { ⌜ length (now name) ≤ length (now row) ⌝ }
+    ensures { λ _. ⌜ now (row .exit) ≡ over (now (name .entry)) (now (row .entry)) ⌝ }
+{
+    let mut i = 0;
+    while i < name.len() {
+        row[i] = name[i];
+        i += 1;
+    }
+}
