@@ -1,6 +1,5 @@
 // One line of a sheet as text (document 01, "Call sheet"): key, number, on a seat's line a comma and a User ID, then LF.
 use super::number::NUMBER_LINES;
-use super::user::visible_end;
 ghost use mathlib.Core.Path.{_≡_};
 ghost use mathlib.Core.List.{[], _∷_};
 ghost use Prim.Native.Nat.{_+_, _-_, _<_, _≤_, min};
@@ -8,6 +7,7 @@ ghost use lib.ListN.{length, take, drop};
 ghost use Rattle.octets.specs.Choice.{begins, front};
 ghost use Rattle.octets.specs.Text.{digit, valueOf, plain};
 ghost use Rattle.sheet.specs.Table.{rowAt};
+ghost use Rattle.sheet.specs.Line.{visible};
 ghost use Rattle.sheet.specs.Inner.{LineIs, TailIs};
 
 // The keys, one behind the other, and where each begins; the last is a seat's.
@@ -114,6 +114,26 @@ fn is_at(text: &[u8], at: usize, c: u8) -> bool
     ensures { λ r. ⌜ r ≡ begins (c ∷ []) (drop at (now (text .entry))) ⌝ }
 {
     if at < text.len() { text[at] == c } else { false }
+}
+
+fn is_visible(c: u8) -> bool
+    ensures { λ r. ⌜ r ≡ visible c ⌝ }
+{
+    if c < 0x21 { false } else { c <= 0x7E }
+}
+
+// Where the visible octets at a place end.
+pub fn visible_end(text: &[u8], at: usize) -> usize
+    ensures { λ r. ⌜ r ≡ at + length (front visible (drop at (now (text .entry)))) ⌝ }
+{
+    let mut i = at;
+    while i < text.len() {
+        if !is_visible(text[i]) {
+            return i;
+        }
+        i += 1;
+    }
+    i
 }
 
 // What follows a number: LF, or on a seat's line the comma, a User ID and LF.

@@ -1,8 +1,8 @@
--- `sheet::user::is_visible` meets its contract: the two tests are the definition's, one after the other.
+-- `sheet::line::is_visible` meets its contract: the two tests are the definition's, one after the other.
 -- Assumes nothing.
 use borrow.Author.Tests.{lt-leb, le-leb}
-use Rattle.sheet.proofs.user.is_visible.Statement.{statement}
-use Rattle.sheet.proofs.user.is_visible.Tie as tie
+use Rattle.sheet.proofs.line.is_visible.Statement.{statement}
+use Rattle.sheet.proofs.line.is_visible.Tie as tie
 
 returns : tie.Need-returns
 returns c = rw (lt-leb _ _ (c .if1 .taken))

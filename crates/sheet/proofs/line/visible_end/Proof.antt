@@ -1,4 +1,4 @@
--- `sheet::user::visible_end` meets its contract: what is passed and the visible octets still ahead end where they did at first.
+-- `sheet::line::visible_end` meets its contract: what is passed and the visible octets still ahead end where they did at first.
 -- Assumes nothing.
 use mathlib.Core.Path.{_≡_, sym, ap, _∙_}
 use Prim.Native.Nat.{_+_, _-_}
@@ -9,8 +9,8 @@ use borrow.Author.Tests.{not-true, not-false}
 use Rattle.octets.specs.Choice.{front}
 use Rattle.octets.proofs.Choice.{front-drop-true, front-drop-false, front-drop-end}
 use Rattle.sheet.specs.Line.{visible}
-use Rattle.sheet.proofs.user.visible_end.Statement.{statement}
-use Rattle.sheet.proofs.user.visible_end.Tie as tie
+use Rattle.sheet.proofs.line.visible_end.Statement.{statement}
+use Rattle.sheet.proofs.line.visible_end.Tie as tie
 
 abbrev Inv-loop : tie.InvT-loop
 Inv-loop text at i₀ i = i + length (front visible (drop i text)) ≡ at + length (front visible (drop at text))
