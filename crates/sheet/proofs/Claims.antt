@@ -44,10 +44,10 @@ module _ (s : Sheet) (users : List (List ℕ)) (n : ℕ) where
       let es = w .0 in
       let v = outcome-reads t es (w .1) in
       let e : entriesOf s users ≡ es = ap₂ entriesOf (sym (w .2)) (sym (w .4)) ∙ entriesOf-laid es (v .0) in
-      let l : n ≡ length (valueText s users) = sym (w .3) ∙ ap (λ (x : List Entry). length (textOf x)) (sym e) in
-      ( subst (λ (u : List (List ℕ)). T (validWith s u)) (w .4) (subst (λ (x : Sheet). T (validWith x (usersOf es))) (w .2) (laid-valid es (v .0)))
-      , l
-      , ap₂ take (sym (w .3)) (v .1 .1) ∙ take-append-seam (textOf es) (v .1 .0) ∙ ap textOf (sym e)
+      let l : n ≡ length (valueText s users) = sym (w .3) ∙ ap (λ (x : List Entry). length (textOf x)) (sym e) in (
+        subst (λ (u : List (List ℕ)). T (validWith s u)) (w .4) (subst (λ (x : Sheet). T (validWith x (usersOf es))) (w .2) (laid-valid es (v .0))),
+        l,
+        ap₂ take (sym (w .3)) (v .1 .1) ∙ take-append-seam (textOf es) (v .1 .0) ∙ ap textOf (sym e),
       )
 
   valid-reads : (t : List ℕ) → T (validWith s users) × (n ≡ length (valueText s users)) × (take n t ≡ valueText s users) → ReadsTo t s users n
@@ -56,19 +56,19 @@ module _ (s : Sheet) (users : List (List ℕ)) (n : ℕ) where
       let es = entriesOf s users in
       let x : t ≡ textOf es ++ drop n t = sym (take-append-drop n t) ∙ ap (λ (y : List ℕ). y ++ drop n t) (w .2) in
       let o : outcome t ≡ reads es = ap outcome x ∙ reads-outcome es (drop n t) (valid-entries s users (w .0)) in
-      let a = sheetOf-entries s users (w .0) in
-      ( ap readingOf o ∙ (λ i. record { sheet = a i; used = sym (w .1) i; refusal = noRefusal })
-      , ap usersFrom o ∙ usersOf-entries s users (w .0)
+      let a = sheetOf-entries s users (w .0) in (
+        ap readingOf o ∙ (λ i. record { sheet = a i; used = sym (w .1) i; refusal = noRefusal }),
+        ap usersFrom o ∙ usersOf-entries s users (w .0),
       )
 
 pub reads-exactly : ReadsExactly
 reads-exactly t s users n = (λ r. reads-valid s users n t r, λ w. valid-reads s users n t w)
 
 pub valid-exactly : ValidExactly
-valid-exactly s users =
-    ( λ v. (valueText s users, length (valueText s users), valid-reads s users (length (valueText s users)) (valueText s users) (v, refl, take-all (length (valueText s users)) (valueText s users) (le-refl (length (valueText s users)))))
-    , λ w. reads-valid s users (w .1) (w .0) (w .2) .0
-    )
+valid-exactly s users = (
+  λ v. (valueText s users, length (valueText s users), valid-reads s users (length (valueText s users)) (valueText s users) (v, refl, take-all (length (valueText s users)) (valueText s users) (le-refl (length (valueText s users))))),
+  λ w. reads-valid s users (w .1) (w .0) (w .2) .0,
+)
 
 -- ---- which line is named
 
@@ -93,15 +93,15 @@ module _ (t : List ℕ) (k : ℕ) (p : outcome t ≡ refused k) where
       let c = completed (r .more) (r .goods) (r .fits) in
       let es = r .more ++ c .0 in
       let e : textFrom 0 es ≡ textFrom 0 (r .more) ++ textFrom (length (r .more)) (c .0) =
-        textFrom-append 0 (r .more) (c .0) ∙ ap (λ (n : ℕ). textFrom 0 (r .more) ++ textFrom n (c .0)) (zero-add (length (r .more))) in
-      ( sheetOf es
-      , usersOf es
-      , laid-valid es (c .1)
-      , ap (λ (x : List ℕ). lines j x) (r .text)
-        ∙ ap (λ (n : ℕ). lines n (textFrom 0 (r .more) ++ r .rest)) (sym (r .count))
-        ∙ lines-front (r .more) [] (r .rest) (textFrom (length (r .more)) (c .0)) (r .goods)
-        ∙ ap (λ (n : ℕ). lines n (textFrom 0 (r .more) ++ textFrom (length (r .more)) (c .0))) (r .count)
-        ∙ ap (λ (x : List ℕ). lines j x) (sym e ∙ ap (λ (x : List Entry). textFrom 0 x) (sym (entriesOf-laid es (c .1))))
+      textFrom-append 0 (r .more) (c .0) ∙ ap (λ (n : ℕ). textFrom 0 (r .more) ++ textFrom n (c .0)) (zero-add (length (r .more))) in (
+        sheetOf es,
+        usersOf es,
+        laid-valid es (c .1),
+        ap (λ (x : List ℕ). lines j x) (r .text)
+            ∙ ap (λ (n : ℕ). lines n (textFrom 0 (r .more) ++ r .rest)) (sym (r .count))
+            ∙ lines-front (r .more) [] (r .rest) (textFrom (length (r .more)) (c .0)) (r .goods)
+            ∙ ap (λ (n : ℕ). lines n (textFrom 0 (r .more) ++ textFrom (length (r .more)) (c .0))) (r .count)
+            ∙ ap (λ (x : List ℕ). lines j x) (sym e ∙ ap (λ (x : List Entry). textFrom 0 x) (sym (entriesOf-laid es (c .1)))),
       )
 
 -- a text that some sheet is the front of is not refused
@@ -128,10 +128,10 @@ least-line t k none never before (refused i) p =
 
 pub named-exactly : NamedExactly
 unfolding readOf
-named-exactly t k =
-    ( λ p. let o = refused-by (outcome t) k p in (read-on t k p, none-has t k o, some-has t k o)
-    , λ w. least-line t k (w .0) (w .1) (w .2) (outcome t) refl
-    )
+named-exactly t k = (
+  λ p. let o = refused-by (outcome t) k p in (read-on t k p, none-has t k o, some-has t k o),
+  λ w. least-line t k (w .0) (w .1) (w .2) (outcome t) refl,
+)
 
 -- ---- the struct alone
 
@@ -145,10 +145,10 @@ named-entries (n ∷ ns) b t h =
     let e : Entry = record { number = n; name = m .0 } in
     let l : length (b ++ (e ∷ [])) ≡ length b + 1 = length-append b (e ∷ []) in
     let g : T (goodNumber (numbersIn b) n) = T-and-left (goodNumber (numbersIn b) n) (inTurn goodNumber (numbersIn b ++ (n ∷ [])) ns) t in
-    let r = named-entries ns (b ++ (e ∷ [])) (rw (numbersIn-append b (e ∷ [])) (T-and-right (goodNumber (numbersIn b) n) (inTurn goodNumber (numbersIn b ++ (n ∷ [])) ns) t)) (omega arith) in
-    ( e ∷ r .0
-    , ap (λ (x : List ℕ). n ∷ x) (r .1)
-    , T-and (goodNumber (numbersIn b) n && goodName (namesIn b) (m .0)) (inTurn good (b ++ (e ∷ [])) (r .0)) (T-and (goodNumber (numbersIn b) n) (goodName (namesIn b) (m .0)) g (m .1)) (r .2)
+    let r = named-entries ns (b ++ (e ∷ [])) (rw (numbersIn-append b (e ∷ [])) (T-and-right (goodNumber (numbersIn b) n) (inTurn goodNumber (numbersIn b ++ (n ∷ [])) ns) t)) (omega arith) in (
+      e ∷ r .0,
+      ap (λ (x : List ℕ). n ∷ x) (r .1),
+      T-and (goodNumber (numbersIn b) n && goodName (namesIn b) (m .0)) (inTurn good (b ++ (e ∷ [])) (r .0)) (T-and (goodNumber (numbersIn b) n) (goodName (namesIn b) (m .0)) g (m .1)) (r .2),
     )
 
 -- the numbers that a struct alone says
@@ -169,7 +169,7 @@ module _ (s : Sheet) (t : T (validAlone s)) where
   some-users =
       let w : T (whole (numbers s)) = T-and-left (whole (numbers s)) (same (s .ssrcs) (sheetFrom (numbers s) .ssrcs)) alone-rest in
       let p : s .ssrcs ≡ sheetFrom (numbers s) .ssrcs =
-        same-eq (s .ssrcs) (sheetFrom (numbers s) .ssrcs) (T-and-right (whole (numbers s)) (same (s .ssrcs) (sheetFrom (numbers s) .ssrcs)) alone-rest) in
+      same-eq (s .ssrcs) (sheetFrom (numbers s) .ssrcs) (T-and-right (whole (numbers s)) (same (s .ssrcs) (sheetFrom (numbers s) .ssrcs)) alone-rest) in
       let b : seatsIn (numbers s) ≤ mostSeats = seats-bound (numbers s) alone-good in
       let l : length (numbers s) ≡ numberLines + seatsIn (numbers s) = whole-eq (numbers s) w in
       let n = named-entries (numbers s) [] alone-good (omega arith) in

@@ -53,8 +53,8 @@ module _ {A : Type 0} (eq : A → A → Bool) (eq-refl : (x : A) → T (eq x x))
     crowded (suc n) xs h =
         let t : T (holds xs (f n)) = h n (omega arith) in
         let m : n ≤ length (without (f n) xs) =
-          crowded n (without (f n) xs)
-          (λ j l. holds-without (f n) (f j) xs (λ q. let i : n ≡ j = apart n j q in omega arith) (h j (omega arith))) in
+        crowded n (without (f n) xs)
+        (λ j l. holds-without (f n) (f j) xs (λ q. let i : n ≡ j = apart n j q in omega arith) (h j (omega arith))) in
         omega (arith, length-without (f n) xs t)
 
     all-or-free : (n : ℕ) (xs : List A)
@@ -142,15 +142,15 @@ fresh-number ns h =
     let r = rowAt (length ns) in
     let w = free {A = ℕ} eqb eqb-refl eqb→eq (λ (j : ℕ). r .least + j) (λ i j q. omega arith) (ofFamily (r .family) 0 ns) in
     let b : r .least + kin (r .family) 0 (length ns) ≤ r .greatest =
-      leb→le (r .least + kin (r .family) 0 (length ns)) (r .greatest) (room (length ns) h) in
+    leb→le (r .least + kin (r .family) 0 (length ns)) (r .greatest) (room (length ns) h) in
     let l : length (ofFamily (r .family) 0 ns) ≡ kin (r .family) 0 (length ns) = length-ofFamily (r .family) 0 ns in
-    let f : taken (r .family) (r .least + w .0) 0 ns ≡ false = taken-family (r .family) (r .least + w .0) 0 ns ∙ w .2 in
-    ( r .least + w .0
-    , T-and (leb (r .least) (r .least + w .0)) (leb (r .least + w .0) (r .greatest) && not (taken (r .family) (r .least + w .0) 0 ns))
-      (le→leb (r .least) (r .least + w .0) (omega arith))
-      (T-and (leb (r .least + w .0) (r .greatest)) (not (taken (r .family) (r .least + w .0) 0 ns))
-      (le→leb (r .least + w .0) (r .greatest) (omega (arith, w .1)))
-      (rw f tt))
+    let f : taken (r .family) (r .least + w .0) 0 ns ≡ false = taken-family (r .family) (r .least + w .0) 0 ns ∙ w .2 in (
+      r .least + w .0,
+      T-and (leb (r .least) (r .least + w .0)) (leb (r .least + w .0) (r .greatest) && not (taken (r .family) (r .least + w .0) 0 ns))
+          (le→leb (r .least) (r .least + w .0) (omega arith))
+          (T-and (leb (r .least + w .0) (r .greatest)) (not (taken (r .family) (r .least + w .0) 0 ns))
+          (le→leb (r .least + w .0) (r .greatest) (omega (arith, w .1)))
+          (rw f tt)),
     )
 
 -- ---- a name that a line may have
@@ -169,11 +169,11 @@ name-by : (b : Bool) (names : List (List ℕ)) → length names ≤ many
     → (name : List ℕ) × T (pick b (userId name && not (some-of (λ (other : List ℕ). same other name) names)) (same name []))
 unfolding holds
 name-by true names h =
-    let w = free {A = List ℕ} same same-refl same-eq (λ (j : ℕ). (33 + j) ∷ []) one-letter names in
-    ( (33 + w .0) ∷ []
-    , T-and (userId ((33 + w .0) ∷ [])) (not (some-of (λ (other : List ℕ). same other ((33 + w .0) ∷ [])) names))
-      (letter-id (w .0) (omega (arith, w .1)))
-      (rw (w .2) tt)
+    let w = free {A = List ℕ} same same-refl same-eq (λ (j : ℕ). (33 + j) ∷ []) one-letter names in (
+      (33 + w .0) ∷ [],
+      T-and (userId ((33 + w .0) ∷ [])) (not (some-of (λ (other : List ℕ). same other ((33 + w .0) ∷ [])) names))
+          (letter-id (w .0) (omega (arith, w .1)))
+          (rw (w .2) tt),
     )
 name-by false names h = ([], tt)
 
@@ -187,9 +187,9 @@ pub fresh-entry : (b : List Entry) → length b ≤ many → (e : Entry) × T (g
 unfolding good
 fresh-entry b h =
     let n = fresh-number (numbersIn b) (rw (length-numbersIn b) h) in
-    let m = fresh-name (namesIn b) (rw (length-namesIn b) h) in
-    ( record { number = n .0; name = m .0 }
-    , T-and (goodNumber (numbersIn b) (n .0)) (goodName (namesIn b) (m .0)) (n .1) (m .1)
+    let m = fresh-name (namesIn b) (rw (length-namesIn b) h) in (
+      record { number = n .0; name = m .0 },
+      T-and (goodNumber (numbersIn b) (n .0)) (goodName (namesIn b) (m .0)) (n .1) (m .1),
     )
 
 -- m lines more
@@ -235,10 +235,10 @@ seated b t h o =
     let s : seatsIn (numbersIn b) ≤ mostSeats = seats-bound (numbersIn b) (good-numbers [] b t) in
     let x = extended (numberLines + seatsIn (numbersIn b) - length b) b t (omega arith) in
     let k : seatsIn (numbersIn (b ++ x .0)) ≡ seatsIn (numbersIn b) = seatsIn-kept b (x .0) h in
-    let l : length (numbersIn (b ++ x .0)) ≡ length b + length (x .0) = length-numbersIn (b ++ x .0) ∙ length-append b (x .0) in
-    ( x .0
-    , T-and (inTurn good [] (b ++ x .0)) (whole (numbersIn (b ++ x .0))) (x .2)
-      (eq-whole (numbersIn (b ++ x .0)) (omega (arith, x .1)))
+    let l : length (numbersIn (b ++ x .0)) ≡ length b + length (x .0) = length-numbersIn (b ++ x .0) ∙ length-append b (x .0) in (
+      x .0,
+      T-and (inTurn good [] (b ++ x .0)) (whole (numbersIn (b ++ x .0))) (x .2)
+          (eq-whole (numbersIn (b ++ x .0)) (omega (arith, x .1))),
     )
 
 -- a good front that is not past the sheet's end goes on to a whole sheet

@@ -60,7 +60,7 @@ module _ (t : List ℕ) (at k : ℕ) (numbers : List ℕ) (users : List (List �
       number-is =
           let x = entryIn (rowAt k) (drop at t) .number in
           let b : x ≤ rowAt (length (take k numbers)) .greatest =
-            number-bound (take k numbers) x (true-T (goodNumber (take k numbers) x) (sym number-judged ∙ g)) in
+          number-bound (take k numbers) x (true-T (goodNumber (take k numbers) x) (sym number-judged ∙ g)) in
           omega (arith, l .1, greatest-cap (length (take k numbers)))
 
       judged-found : T (goodAt t at k numbers users) → JudgedIs t at k numbers users (Good n a e)
@@ -88,5 +88,5 @@ module _ (t : List ℕ) (at k : ℕ) (numbers : List ℕ) (users : List (List �
   judged-cap n a e j =
       let x = entryIn (rowAt k) (drop at t) in
       let g : T (goodNumber (take k numbers) (x .number)) =
-        T-and-left (goodNumber (take k numbers) (x .number)) _ (T-and-right (begins (lineOf (rowAt k) x) (drop at t)) _ (j .0)) in
+      T-and-left (goodNumber (take k numbers) (x .number)) _ (T-and-right (begins (lineOf (rowAt k) x) (drop at t)) _ (j .0)) in
       omega (arith, j .1, number-bound (take k numbers) (x .number) g, greatest-cap (length (take k numbers)))

@@ -171,19 +171,19 @@ laid-valid es t =
 pub sheetFrom-numbers : (s : Sheet) (ns : List ℕ) → s .ssrcs ≡ sheetFrom (numbersOf s ++ ns) .ssrcs → sheetFrom (numbersOf s ++ ns) ≡ s
 unfolding sheetFrom numbersOf
 sheetFrom-numbers s ns p = λ i. record {
-      server = s .server;
-      limit = s .limit;
-      request = s .request;
-      response = s .response;
-      endrequest = s .endrequest;
-      endresponse = s .endresponse;
-      txend = s .txend;
-      txendresponse = s .txendresponse;
-      ack = s .ack;
-      resultid = s .resultid;
-      seats = s .seats;
-      ssrcs = sym p i
-    }
+  server = s .server;
+  limit = s .limit;
+  request = s .request;
+  response = s .response;
+  endrequest = s .endrequest;
+  endresponse = s .endresponse;
+  txend = s .txend;
+  txendresponse = s .txendresponse;
+  ack = s .ack;
+  resultid = s .resultid;
+  seats = s .seats;
+  ssrcs = sym p i;
+}
 
 module _ (s : Sheet) (users : List (List ℕ)) (t : T (validWith s users)) where
   -- the entries that a valid value stands for

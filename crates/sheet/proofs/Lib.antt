@@ -10,3 +10,4 @@ pub mod Named
 pub mod JudgeLaws
 pub mod Scanned
 pub mod Claims
+pub mod ValidLaws

@@ -65,7 +65,7 @@ unfolding entryIn nameAfter tailOf
 entry-line r e u t =
     let n : valueOf (digitsAfter r (lineOf r e ++ u)) ≡ e .number = rw (digits-line r e u) (value-decimal (e .number)) in
     let m : pick (r .named) (front visible (drop (length (r .key) + length (digitsAfter r (lineOf r e ++ u)) + 1) (lineOf r e ++ u))) [] ≡ e .name =
-      rw (digits-line r e u, after-digits r e u) (name-by (r .named) (e .name) u t) in
+    rw (digits-line r e u, after-digits r e u) (name-by (r .named) (e .name) u t) in
     λ i. record { number = n i; name = m i }
 
 -- ---- a line's text is one line

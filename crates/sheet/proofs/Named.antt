@@ -66,7 +66,7 @@ begun b e s text j g p =
     record {
       rest = drop (length (firstLine s)) s;
       split = firstLine-split s ∙ ap (λ (l : List ℕ). l ++ drop (length (firstLine s)) s) h;
-      lines-rest = cc
+      lines-rest = cc;
     }
 
 length-begun : {b : List Entry} {e : Entry} {s text : List ℕ} {j : ℕ} (c : Begun b e s text j)
@@ -89,7 +89,7 @@ none-begins (suc f) b s k (suc j) (x ∷ xs) p q t w h e =
     let m : length (b ++ (x ∷ [])) ≡ suc (length b) = length-snoc b x in
     let o : whole (numbersIn b) ≡ false = whole-front (numbersIn b) (x .number) (numbersIn xs) (rw (numbersIn-append b (x ∷ xs)) at w) in
     let r : readBy f (b ++ (x ∷ [])) (c .rest) ≡ refused k =
-      sym (read-line f b x (c .rest) g o) ∙ sym (ap (λ (y : List ℕ). readBy (suc f) b y) (c .split)) ∙ p in
+    sym (read-line f b x (c .rest) g o) ∙ sym (ap (λ (y : List ℕ). readBy (suc f) b y) (c .split)) ∙ p in
     none-begins f (b ++ (x ∷ [])) (c .rest) k j xs r (omega arith) (T-and-right (good b x) (inTurn good (b ++ (x ∷ [])) xs) t)
     (rw (append-assoc b (x ∷ []) xs) w)
     (omega (arith, line-pos (rowAt (length b)) x, length-begun c))
@@ -117,9 +117,9 @@ front-more b s j g r =
       goods = rw a at (r .goods);
       fits = subst (λ (es : List Entry). Open (numbersIn es)) a (r .fits);
       text =
-        goodLine-split b s g
-        ∙ ap (λ (x : List ℕ). lineOf (rowAt (length b)) (entryAt b s) ++ x) (rw (length-snoc b (entryAt b s)) at (r .text))
-        ∙ sym (append-assoc (lineOf (rowAt (length b)) (entryAt b s)) (textFrom (suc (length b)) (r .more)) (r .rest))
+          goodLine-split b s g
+          ∙ ap (λ (x : List ℕ). lineOf (rowAt (length b)) (entryAt b s) ++ x) (rw (length-snoc b (entryAt b s)) at (r .text))
+          ∙ sym (append-assoc (lineOf (rowAt (length b)) (entryAt b s)) (textFrom (suc (length b)) (r .more)) (r .rest));
     }
 
 pub some-begins : (f : ℕ) (b : List Entry) (s : List ℕ) (k j : ℕ) → readBy f b s ≡ refused k → length b + j < k
@@ -149,7 +149,7 @@ lines-front (e ∷ es) b u v t =
     let line = lineOf (rowAt (length b)) e in
     let text = textFrom (suc (length b)) es in
     let ih : lines (length es) (text ++ u) ≡ lines (length es) (text ++ v) =
-      rw (length-snoc b e) at (lines-front es (b ++ (e ∷ [])) u v (T-and-right (good b e) (inTurn good (b ++ (e ∷ [])) es) t)) in
+    rw (length-snoc b e) at (lines-front es (b ++ (e ∷ [])) u v (T-and-right (good b e) (inTurn good (b ++ (e ∷ [])) es) t)) in
     ap (λ (x : List ℕ). lines (suc (length es)) x) (append-assoc line text u)
     ∙ lines-line (length es) (length b) e (text ++ u) (good-shaped b e g)
     ∙ ap (λ (ls : List (List ℕ)). line ∷ ls) ih

@@ -29,7 +29,7 @@ listed-drop zero at l e = sym (drop-of-length-le l {i = at} (omega arith))
 listed-drop (suc n) at l e = rw (drop-cons l at 0 (omega arith), listed-drop n (suc at) l (omega arith))
 
 -- below the end the default does not matter
-getD-default {ℓ} : {A : Type ℓ} (l : List A) (i : ℕ) (d e : A) → i < length l → getD l i d ≡ getD l i e
+pub getD-default {ℓ} : {A : Type ℓ} (l : List A) (i : ℕ) (d e : A) → i < length l → getD l i d ≡ getD l i e
 getD-default [] i d e h = absurd (not-suc-le-zero h)
 getD-default (x ∷ l) zero d e h = refl
 getD-default (x ∷ l) (suc i) d e h = getD-default l i d e (le-of-suc-le-suc h)

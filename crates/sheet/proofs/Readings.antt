@@ -74,7 +74,7 @@ readBy-good f b s w g = rw (w, g)
 pub length-behind : (b : List Entry) (s : List ℕ) → T (goodLine b s) → length (behind b s) < length s
 length-behind b s t =
     let l : length s ≡ length (lineOf (rowAt (length b)) (entryAt b s)) + length (behind b s) =
-      ap length (goodLine-split b s t) ∙ length-append (lineOf (rowAt (length b)) (entryAt b s)) (behind b s) in
+    ap length (goodLine-split b s t) ∙ length-append (lineOf (rowAt (length b)) (entryAt b s)) (behind b s) in
     omega (arith, line-pos (rowAt (length b)) (entryAt b s))
 
 pub length-snoc : (b : List Entry) (e : Entry) → length (b ++ (e ∷ [])) ≡ suc (length b)
@@ -101,9 +101,9 @@ read-more b s es t r =
       good = T-and (good b (entryAt b s)) (inTurn good (b ++ (entryAt b s ∷ [])) (r .more)) (goodLine-good b s t) (r .good);
       whole = r .whole;
       text =
-        goodLine-split b s t
-        ∙ ap (λ (x : List ℕ). lineOf (rowAt (length b)) (entryAt b s) ++ x) (rw (length-snoc b (entryAt b s)) at (r .text))
-        ∙ sym (append-assoc (lineOf (rowAt (length b)) (entryAt b s)) (textFrom (suc (length b)) (r .more)) (r .rest))
+          goodLine-split b s t
+          ∙ ap (λ (x : List ℕ). lineOf (rowAt (length b)) (entryAt b s) ++ x) (rw (length-snoc b (entryAt b s)) at (r .text))
+          ∙ sym (append-assoc (lineOf (rowAt (length b)) (entryAt b s)) (textFrom (suc (length b)) (r .more)) (r .rest));
     }
 
 -- at a whole sheet, at a bad line, or at a good one
@@ -144,7 +144,7 @@ unfolding textFrom inTurn
 read-back [] f b u t w h = rw (append-nil b) (readBy-whole f b u (T-true (whole (numbersIn b)) (rw (append-nil b) at w)))
 read-back (e ∷ es) zero b u t w h =
     let l : length ((lineOf (rowAt (length b)) e ++ textFrom (suc (length b)) es) ++ u) ≡ length (lineOf (rowAt (length b)) e) + length (textFrom (suc (length b)) es) + length u =
-      simp length-append in
+    simp length-append in
     absurd (omega (arith, line-pos (rowAt (length b)) e))
 read-back (e ∷ es) (suc f) b u t w h =
     let line = lineOf (rowAt (length b)) e in
@@ -155,7 +155,7 @@ read-back (e ∷ es) (suc f) b u t w h =
     let l : length (line ++ v) ≡ length line + length v = length-append line v in
     let h′ : length (line ++ v) ≤ suc f = rw a at h in
     let ih : readBy f (b ++ (e ∷ [])) v ≡ reads ((b ++ (e ∷ [])) ++ es) =
-      rw (length-snoc b e) at (read-back es f (b ++ (e ∷ [])) u (T-and-right (good b e) (inTurn good (b ++ (e ∷ [])) es) t) w′ (rw (length-snoc b e) (omega (arith, line-pos (rowAt (length b)) e)))) in
+    rw (length-snoc b e) at (read-back es f (b ++ (e ∷ [])) u (T-and-right (good b e) (inTurn good (b ++ (e ∷ [])) es) t) w′ (rw (length-snoc b e) (omega (arith, line-pos (rowAt (length b)) e)))) in
     rw (a, read-line f b e v g (whole-front (numbersIn b) (e .number) (numbersIn es) (rw (numbersIn-append b (e ∷ es)) at w)), ih, append-assoc b (e ∷ []) es)
 
 -- ---- which texts read
@@ -163,9 +163,9 @@ read-back (e ∷ es) (suc f) b u t w h =
 pub outcome-reads : (t : List ℕ) (es : List Entry) → outcome t ≡ reads es → T (valid es) × ((u : List ℕ) × (t ≡ textOf es ++ u))
 unfolding outcome valid textOf
 outcome-reads t es p =
-    let r = read-on (length t) [] t es p in
-    ( T-and (inTurn good [] es) (whole (numbersIn es)) (rw (r .all) (r .good)) (r .whole)
-    , (r .rest, r .text ∙ ap (λ (x : List Entry). textFrom 0 x ++ r .rest) (sym (r .all)))
+    let r = read-on (length t) [] t es p in (
+      T-and (inTurn good [] es) (whole (numbersIn es)) (rw (r .all) (r .good)) (r .whole),
+      (r .rest, r .text ∙ ap (λ (x : List Entry). textFrom 0 x ++ r .rest) (sym (r .all))),
     )
 
 pub reads-outcome : (es : List Entry) (u : List ℕ) → T (valid es) → outcome (textOf es ++ u) ≡ reads es

@@ -32,7 +32,7 @@ use Rattle.sheet.proofs.Readings.{entryAt, goodLine-good, readBy-whole,
 
 -- ---- a name is new among the rows exactly if it is new among the names
 
-isNone-first : {A : Type 0} (p : A → Bool) (xs : List A) → isNone (first-place p xs) ≡ not (some-of p xs)
+pub isNone-first : {A : Type 0} (p : A → Bool) (xs : List A) → isNone (first-place p xs) ≡ not (some-of p xs)
 isNone-first p [] = refl
 isNone-first p (x ∷ xs) = by-test (p x) (first-place p xs) (some-of p xs) (isNone-first p xs)
   where
@@ -41,7 +41,7 @@ isNone-first p (x ∷ xs) = by-test (p x) (first-place p xs) (some-of p xs) (isN
     by-test false none t e = e
     by-test false (some n) t e = e
 
-some-of-append : {A : Type 0} (p : A → Bool) (xs ys : List A) → some-of p (xs ++ ys) ≡ (some-of p xs || some-of p ys)
+pub some-of-append : {A : Type 0} (p : A → Bool) (xs ys : List A) → some-of p (xs ++ ys) ≡ (some-of p xs || some-of p ys)
 some-of-append p [] ys = refl
 some-of-append p (x ∷ xs) ys = rw (some-of-append p xs ys) (sym (or-assoc (p x) (some-of p xs) (some-of p ys)))
 
@@ -56,7 +56,7 @@ some-of-rows (e ∷ es) b name t h =
     rw (n, some-of-rows es (b ++ (e ∷ [])) name (T-and-right (good b e) (inTurn good (b ++ (e ∷ [])) es) t) (omega arith))
 
 -- a line with a number alone has no name
-some-of-alone : (ns : List ℕ) (c : ℕ) (cs : List ℕ) → some-of (λ (other : List ℕ). same other (c ∷ cs)) (namesIn (map alone ns)) ≡ false
+pub some-of-alone : (ns : List ℕ) (c : ℕ) (cs : List ℕ) → some-of (λ (other : List ℕ). same other (c ∷ cs)) (namesIn (map alone ns)) ≡ false
 some-of-alone [] c cs = refl
 some-of-alone (n ∷ ns) c cs = some-of-alone ns c cs
 
@@ -89,13 +89,13 @@ module _ (b : List Entry) (t : T (inTurn good [] b)) (h : numberLines ≤ length
       let p : List ℕ → Bool = λ row. same (nameOf row) (c ∷ cs) in
       let q : List ℕ → Bool = λ other. same other (c ∷ cs) in
       let l : isNone (first-place p (take (length b - numberLines) (usersOf b))) ≡ not (some-of q (namesIn (drop numberLines b))) =
-        ap (λ (rows : List (List ℕ)). isNone (first-place p rows)) rows-laid
-        ∙ isNone-first p (map rowOf (namesIn (drop numberLines b)))
-        ∙ ap not (some-of-rows (drop numberLines b) (take numberLines b) (c ∷ cs) (inTurn-drop good numberLines b t) (rw (length-take-le numberLines b h) (le-refl numberLines))) in
+      ap (λ (rows : List (List ℕ)). isNone (first-place p rows)) rows-laid
+      ∙ isNone-first p (map rowOf (namesIn (drop numberLines b)))
+      ∙ ap not (some-of-rows (drop numberLines b) (take numberLines b) (c ∷ cs) (inTurn-drop good numberLines b t) (rw (length-take-le numberLines b h) (le-refl numberLines))) in
       let r : some-of q (namesIn b) ≡ some-of q (namesIn (drop numberLines b)) =
-        ap (some-of q) names-split
-        ∙ some-of-append q (namesIn (map alone (take numberLines (numbersIn b)))) (namesIn (drop numberLines b))
-        ∙ ap (λ (x : Bool). x || some-of q (namesIn (drop numberLines b))) (some-of-alone (take numberLines (numbersIn b)) c cs) in
+      ap (some-of q) names-split
+      ∙ some-of-append q (namesIn (map alone (take numberLines (numbersIn b)))) (namesIn (drop numberLines b))
+      ∙ ap (λ (x : Bool). x || some-of q (namesIn (drop numberLines b))) (some-of-alone (take numberLines (numbersIn b)) c cs) in
       ap (λ (x : Bool). userId (c ∷ cs) && x) (l ∙ ap not (sym r))
 
 -- ---- a line judged against the arrays is judged against the entries
@@ -107,7 +107,7 @@ no-name b s h =
     let n : rowAt (length b) .named ≡ false = T-false (rowAt (length b) .named) (T-not (rowAt (length b) .named) (unnamed (length b) h)) in
     rw (length-namesIn b, n)
 
-seat-named : (b : List Entry) (name : List ℕ) → numberLines ≤ length b
+pub seat-named : (b : List Entry) (name : List ℕ) → numberLines ≤ length b
     → goodName (namesIn b) name ≡ (userId name && not (some-of (λ (other : List ℕ). same other name) (namesIn b)))
 unfolding goodName seatRow
 seat-named b name h = rw (length-namesIn b, rowAt-seat (length b) h)
@@ -129,7 +129,7 @@ unfolding goodAt goodLine good
 line-judged t at b g =
     let e = entryAt b (drop at t) in
     let n : take (length b) (padded room 0 (numbersIn b)) ≡ numbersIn b =
-      ap (λ (k : ℕ). take k (padded room 0 (numbersIn b))) (sym (length-numbersIn b)) ∙ take-padded room 0 (numbersIn b) in
+    ap (λ (k : ℕ). take k (padded room 0 (numbersIn b))) (sym (length-numbersIn b)) ∙ take-padded room 0 (numbersIn b) in
     ap (λ (x : Bool). begins (lineOf (rowAt (length b)) e) (drop at t) && x)
     (ap₂ (λ (x y : Bool). x && y) (ap (λ (ns : List ℕ). goodNumber ns (e .number)) n) (name-judged b (drop at t) g))
 
@@ -167,7 +167,7 @@ scanned-none t =
       place = refl;
       inside = zero-le;
       enough = le-refl (length t);
-      same-outcome = refl
+      same-outcome = refl;
     }
 
 module _ {t numbers : List ℕ} {users : List (List ℕ)} {total at k : ℕ} (i : Scanned t numbers users total at k) where
@@ -244,9 +244,9 @@ users-more b e h m =
     let rows = map rowOf (drop numberLines (namesIn b)) in
     let l : length rows ≡ length b - numberLines = length-rows b in
     let n : map rowOf (drop numberLines (namesIn (b ++ (e ∷ [])))) ≡ rows ++ (rowOf (e .name) ∷ []) =
-      ap (λ (names : List (List ℕ)). map rowOf (drop numberLines names)) (map-append (λ (x : Entry). x .name) b (e ∷ []))
-      ∙ ap (λ (names : List (List ℕ)). map rowOf names) (drop-append-le numberLines (namesIn b) (e .name ∷ []) (rw (length-namesIn b) h))
-      ∙ map-append rowOf (drop numberLines (namesIn b)) (e .name ∷ []) in
+    ap (λ (names : List (List ℕ)). map rowOf (drop numberLines names)) (map-append (λ (x : Entry). x .name) b (e ∷ []))
+    ∙ ap (λ (names : List (List ℕ)). map rowOf names) (drop-append-le numberLines (namesIn b) (e .name ∷ []) (rw (length-namesIn b) h))
+    ∙ map-append rowOf (drop numberLines (namesIn b)) (e .name ∷ []) in
     ap (padded mostSeats (rowOf [])) n
     ∙ sym (set-padded mostSeats (rowOf []) rows (rowOf (e .name)) (omega arith))
     ∙ ap (λ (j : ℕ). set (padded mostSeats (rowOf []) rows) j (rowOf (e .name))) l
@@ -334,12 +334,12 @@ module _ {t numbers : List ℕ} {users : List (List ℕ)} {total at k : ℕ} (i 
         → (f′ : ℕ) × (length (drop (at + length (lineOf (rowAt k) next)) t) ≤ f′) × (readBy f′ more (drop (at + length (lineOf (rowAt k) next)) t) ≡ outcome t)
     reading-next zero n o = let l = length-behind (i .before) (drop at t) good-next in absurd (omega arith)
     reading-next (suc f) n o =
-        let l = length-behind (i .before) (drop at t) good-next in
-        ( f
-        , rw behind-next at (let m : length (behind (i .before) (drop at t)) ≤ f = omega arith in m)
-        , ap₂ (λ (e : Entry) (u : List ℕ). readBy f (i .before ++ (e ∷ [])) u) (sym next-is) (sym behind-next)
-          ∙ sym (readBy-good f (i .before) (drop at t) (open-line i h) (T-true (goodLine (i .before) (drop at t)) good-next))
-          ∙ o
+        let l = length-behind (i .before) (drop at t) good-next in (
+          f,
+          rw behind-next at (let m : length (behind (i .before) (drop at t)) ≤ f = omega arith in m),
+          ap₂ (λ (e : Entry) (u : List ℕ). readBy f (i .before ++ (e ∷ [])) u) (sym next-is) (sym behind-next)
+              ∙ sym (readBy-good f (i .before) (drop at t) (open-line i h) (T-true (goodLine (i .before) (drop at t)) good-next))
+              ∙ o,
         )
 
     pub scanned-more : (users′ : List (List ℕ)) (total′ at′ : ℕ) → users′ ≡ usersOf more → total′ ≡ numberLines + seatsIn (numbersIn more)
@@ -359,7 +359,7 @@ module _ {t numbers : List ℕ} {users : List (List ℕ)} {total at k : ℕ} (i 
           place = a ∙ place-next;
           inside = l;
           enough = rw a (r .1);
-          same-outcome = rw a (r .2)
+          same-outcome = rw a (r .2);
         }
 
 -- ---- one turn of the pass
@@ -371,7 +371,7 @@ userId-short name t =
     (T-and-left (leb (length name) longestName) (every visible name) (T-and-right (leb 1 (length name)) (leb (length name) longestName && every visible name) t))
 
 module _ {t numbers : List ℕ} {users : List (List ℕ)} {total at k : ℕ} (i : Scanned t numbers users total at k) (h : k < total)
-  (n a e : ℕ) (j : JudgedIs t at k numbers users (Good n a e)) where
+    (n a e : ℕ) (j : JudgedIs t at k numbers users (Good n a e)) where
   -- how many lines there are after it
   abbrev pub TotalAfter : ℕ → Type 0
   TotalAfter total′ = ((k + 1 ≡ 11) × (total′ ≡ 11 + n)) ⊎ ((k + 1 ≡ 11 → ⊥) × (total′ ≡ total))
@@ -410,7 +410,7 @@ module _ {t numbers : List ℕ} {users : List (List ℕ)} {total at k : ℕ} (i 
       let x = entryIn (rowAt k) (drop at t) in
       let seat = isNone (seatOfUser (k - numberLines) users (x .name)) in
       let g : T (pick (leb numberLines k) (userId (x .name) && seat) true) =
-        T-and-right (goodNumber (take k numbers) (x .number)) _ (T-and-right (begins (lineOf (rowAt k) x) (drop at t)) _ (j .0)) in
+      T-and-right (goodNumber (take k numbers) (x .number)) _ (T-and-right (begins (lineOf (rowAt k) x) (drop at t)) _ (j .0)) in
       userId-short (x .name) (T-and-left (userId (x .name)) seat (rw (le-leb numberLines k l) at g))
 
   row-long : numberLines ≤ k → length (getD users (k - numberLines) []) ≡ longestName
@@ -450,7 +450,7 @@ layout-padded ns h =
       ack = p 8 i;
       resultid = p 9 i;
       seats = p 10 i;
-      ssrcs = q i
+      ssrcs = q i;
     }
 
 module _ {t numbers : List ℕ} {users : List (List ℕ)} {total at k : ℕ} (i : Scanned t numbers users total at k) where

@@ -9,14 +9,15 @@ use native.Mathlib.Numerals.{add-one}
 use native.Mathlib.Omega.{arith}
 use lib.ListN.{length, getD, set, take, drop, length-take, drop-of-length-le, List·getD-append}
 use lib.Seq.{take-suc, take-append-seam, length-take-le, drop-cons, getD-take}
-use lib.Dec.{eqb}
+use lib.Dec.{T, eqb}
 use borrow.Author.Tests.{eq-eqb, ne-eqb, le-leb, lt-leb}
 use Rattle.octets.specs.Choice.{same, front, first-place}
-use Rattle.octets.specs.Buffer.{over, zerosFrom}
-use Rattle.octets.proofs.Choice.{T-false, same-eq, front-split, length-front-le, front-drop-true, front-drop-false, front-drop-end, first-place-none, first-place-some}
-use Rattle.octets.proofs.Buffer.{set-over}
+use Rattle.octets.specs.Buffer.{over, zerosFrom, padded}
+use Rattle.octets.proofs.Choice.{T-true, T-false, same-eq, eq-same, front-split, length-front-le, front-drop-true, front-drop-false, front-drop-end, first-place-none, first-place-some}
+use Rattle.octets.proofs.Buffer.{set-over, zerosFrom-padded, padded-zerosFrom}
+use Rattle.sheet.specs.Line.{longestName}
 use Rattle.sheet.specs.Judge.{userId}
-use Rattle.sheet.specs.Value.{nameOf}
+use Rattle.sheet.specs.Value.{rowOf, nameOf}
 use Rattle.sheet.specs.Find.{seatOfUser}
 use Rattle.sheet.specs.Inner.{newName, goodRow}
 
@@ -125,21 +126,39 @@ module _ (seats : ℕ) (users : List (List ℕ)) (name : List ℕ) where
 
 -- ---- a row as it has to be
 
+-- two tests that hold together are one
+test-eq : (a b : Bool) → (T a → T b) → (T b → T a) → a ≡ b
+test-eq true b f g = sym (T-true b (f tt))
+test-eq false b f g = sym (T-false b g)
+
+-- a list is its front filled up with zeros exactly if zeros stand behind the front
+pub same-padded : (s : List ℕ) (at : ℕ) → at ≤ length s → same s (padded (length s) 0 (take at s)) ≡ zerosFrom s at
+same-padded s at h =
+    let p = padded (length s) 0 (take at s) in
+    test-eq (same s p) (zerosFrom s at)
+    (λ t. rw (← same-eq s p t, length-take-le at s h) at (zerosFrom-padded (length s) (take at s)))
+    (λ z. eq-same s p (sym (padded-zerosFrom s at z h)))
+
+-- a row is its name at fixed width exactly if zeros stand behind the name
+pub same-rowOf : (row : List ℕ) → length row ≡ longestName → same row (rowOf (nameOf row)) ≡ zerosFrom row (length (nameOf row))
+unfolding rowOf
+same-rowOf row l = rw (l, take-nameOf row) at (same-padded row (length (nameOf row)) (length-nameOf-le row))
+
 module _ (seats : ℕ) (users : List (List ℕ)) (s : ℕ) where
   abbrev row : List ℕ
   row = getD users s []
 
-  -- something stands behind the name
-  pub goodRow-stained : zerosFrom row (length (nameOf row)) ≡ false → goodRow seats users s ≡ false
+  -- it is more than a name at fixed width
+  pub goodRow-stained : same row (rowOf (nameOf row)) ≡ false → goodRow seats users s ≡ false
   unfolding goodRow
   goodRow-stained e = rw e
 
   -- no seat is there: nothing stands in it
-  pub goodRow-unused : zerosFrom row (length (nameOf row)) ≡ true → seats ≤ s → goodRow seats users s ≡ eqb (length (nameOf row)) 0
+  pub goodRow-unused : same row (rowOf (nameOf row)) ≡ true → seats ≤ s → goodRow seats users s ≡ eqb (length (nameOf row)) 0
   unfolding goodRow
   goodRow-unused e h = rw (e, le-leb seats s h)
 
   -- a seat's name is new
-  pub goodRow-used : zerosFrom row (length (nameOf row)) ≡ true → s < seats → goodRow seats users s ≡ newName s users (nameOf row)
+  pub goodRow-used : same row (rowOf (nameOf row)) ≡ true → s < seats → goodRow seats users s ≡ newName s users (nameOf row)
   unfolding goodRow
   goodRow-used e h = rw (e, lt-leb seats s h)

@@ -7,8 +7,7 @@ use mathlib.Core.List.{List, [], _∷_, _++_}
 use mathlib.Core.Option.{Option, none, some}
 use lib.ListN.{length, getD, take, drop}
 use lib.Dec.{T, leb, eqb}
-use Rattle.octets.specs.Choice.{pick, begins, front}
-use Rattle.octets.specs.Buffer.{zerosFrom}
+use Rattle.octets.specs.Choice.{pick, same, begins, front}
 use Rattle.sheet.specs.declared.Sheet.{Sheet}
 use Rattle.sheet.specs.declared.line.Line.{Line}
 use Rattle.sheet.specs.declared.line.Line.the-variants.{Good, Bad}
@@ -17,7 +16,7 @@ use Rattle.sheet.specs.declared.line.Rest.the-variants.{Good as GoodTail
 use Rattle.sheet.specs.Table.{Row, rowAt, numberLines}
 use Rattle.sheet.specs.Line.{Entry, visible, tailOf, lineOf, entryIn}
 use Rattle.sheet.specs.Judge.{goodNumber, userId}
-use Rattle.sheet.specs.Value.{nameOf}
+use Rattle.sheet.specs.Value.{rowOf, nameOf}
 use Rattle.sheet.specs.Find.{seatOfUser}
 
 -- numbers are told apart as far as this
@@ -57,11 +56,11 @@ isNone (some n) = false
 unfoldable pub newName : ℕ → List (List ℕ) → List ℕ → Bool
 newName seats users name = userId name && isNone (seatOfUser seats users name)
 
--- a row as it has to be under so many seats: a new name and zeros, or zeros alone
+-- a row as it has to be under so many seats: a new name at fixed width, or none
 unfoldable pub goodRow : ℕ → List (List ℕ) → ℕ → Bool
 goodRow seats users s =
     let row = getD users s [] in
-    zerosFrom row (length (nameOf row))
+    same row (rowOf (nameOf row))
     && pick (leb seats s) (eqb (length (nameOf row)) 0) (newName s users (nameOf row))
 
 -- line k is good behind lines with these numbers and these User IDs
@@ -94,5 +93,5 @@ layoutOf n =
       ack = getD n 8 0;
       resultid = getD n 9 0;
       seats = getD n 10 0;
-      ssrcs = drop 11 n
+      ssrcs = drop 11 n;
     }

@@ -32,7 +32,7 @@ sheetFrom ns =
       ack = getD ns 8 0;
       resultid = getD ns 9 0;
       seats = getD ns 10 0;
-      ssrcs = padded mostSeats 0 (drop numberLines ns)
+      ssrcs = padded mostSeats 0 (drop numberLines ns);
     }
 
 unfoldable pub sheetOf : List Entry → Sheet

@@ -103,8 +103,9 @@ pub fn valid_with(sheet: Sheet, users: &[[u8; 60]; 8]) -> bool
         return false;
     }
     let seats = sheet.seats;
+    let rows = &users[..];
     let mut s = 0;
-    while s < 8 {
+    while s < rows.len() {
         if !seat::is_good_row(users, s, seats) {
             return false;
         }

@@ -11,7 +11,9 @@ ghost use Rattle.sheet.specs.Line.{visible};
 ghost use Rattle.sheet.specs.Inner.{LineIs, TailIs};
 
 // The keys, one behind the other, and where each begins; the last is a seat's.
-const KEYS: [u8; 97] = *b"server=limit=request=response=endrequest=endresponse=txend=txendresponse=ack=resultid=seats=seat=";
+const KEYS: [u8; 97] =
+    *b"server=limit=request=response=endrequest=endresponse=txend=txendresponse=ack=resultid=seats=seat=";
+
 const KEY_AT: [usize; 13] = [0, 7, 13, 21, 30, 41, 53, 59, 73, 77, 86, 92, 97];
 
 // Numbers are told apart as far as this; every number that a line may have is below it.
@@ -19,7 +21,11 @@ const CAP: u64 = 4294967296;
 
 // A line that was found: its number, as far as CAP, the place of its User ID and that of its LF; or that there is none.
 pub enum Line {
-    Good { number: u64, name: usize, end: usize },
+    Good {
+        number: u64,
+        name: usize,
+        end: usize,
+    },
     Bad,
 }
 
@@ -80,7 +86,7 @@ fn is_digit(c: u8) -> bool
 // The number that the digits at a place make, as far as CAP, and where they end.
 fn digits(text: &[u8], at: usize) -> Decimal
     ensures { λ r. ⌜ (r .end ≡ at + length (front digit (drop at (now (text .entry)))))
-      × (r .number ≡ min (valueOf (front digit (drop at (now (text .entry))))) 4294967296) ⌝ }
+        × (r .number ≡ min (valueOf (front digit (drop at (now (text .entry))))) 4294967296) ⌝ }
 {
     let mut number: u64 = 0;
     let mut i = at;
@@ -113,7 +119,11 @@ fn is_plain(text: &[u8], at: usize, end: usize) -> bool
 fn is_at(text: &[u8], at: usize, c: u8) -> bool
     ensures { λ r. ⌜ r ≡ begins (c ∷ []) (drop at (now (text .entry))) ⌝ }
 {
-    if at < text.len() { text[at] == c } else { false }
+    if at < text.len() {
+        text[at] == c
+    } else {
+        false
+    }
 }
 
 fn is_visible(c: u8) -> bool

@@ -68,7 +68,10 @@ fn refused(k: usize) -> Reading
     Reading {
         sheet: sheet_of([0u32; 19]),
         used: 0,
-        refusal: Refusal { number: 12, at: k as u32 },
+        refusal: Refusal {
+            number: 12,
+            at: k as u32,
+        },
     }
 }
 

@@ -77,9 +77,9 @@ returns c =
     let w = c .before .before .before .before .before .before in
     let a = w .before .loop in
     let t = now (w .before .before .before .args .text) in
-    let j = subst (JudgedIs t (a .at) (a .k) (a .numbers) (a .users)) (c .before .enum-told .given .1) (c .before .before .before .judged .ensures) in
-    ( c .refused .ensures ∙ sym (scanned-refused (state w) (w .loop-test .taken) j)
-    , λ h. absurd (let z : c .refused .result .refusal .number ≡ 12 = ap (λ (r : Reading). r .refusal .number) (c .refused .ensures) in omega arith)
+    let j = subst (JudgedIs t (a .at) (a .k) (a .numbers) (a .users)) (c .before .enum-told .given .1) (c .before .before .before .judged .ensures) in (
+      c .refused .ensures ∙ sym (scanned-refused (state w) (w .loop-test .taken) j),
+      λ h. absurd (let z : c .refused .result .refusal .number ≡ 12 = ap (λ (r : Reading). r .refusal .number) (c .refused .ensures) in omega arith),
     )
 
 cast-numbers : tie.Need-cast-numbers Inv-loop μ-loop
@@ -149,9 +149,9 @@ returns-2 : tie.Need-returns-2 Inv-loop μ-loop
 returns-2 c =
     let i = c .before .before .loop .inv in
     let h = c .before .loop-test .left in
-    let q = scanned-reading i h in
-    ( (λ j. record { sheet = (c .sheet-of .ensures) j; used = c .before .before .loop .at; refusal = noRefusal }) ∙ sym q
-    , λ p. sym (scanned-users i h)
+    let q = scanned-reading i h in (
+      (λ j. record { sheet = (c .sheet-of .ensures) j; used = c .before .before .loop .at; refusal = noRefusal }) ∙ sym q,
+      λ p. sym (scanned-users i h),
     )
 
 pub scan-spec : {M : Type 1} → statement M

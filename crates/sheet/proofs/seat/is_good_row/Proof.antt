@@ -5,19 +5,19 @@ use mathlib.Core.List.{List, []}
 use Prim.Native.Nat.{ℕ}
 use borrow.Author.Needs.{needs}
 use borrow.Author.Tests.{not-true, not-false}
-use lib.ListN.{length, getD}
-use Rattle.octets.specs.Buffer.{zerosFrom}
-use Rattle.sheet.specs.Value.{nameOf}
-use Rattle.sheet.proofs.SeatLaws.{take-nameOf, goodRow-stained, goodRow-unused, goodRow-used}
+use lib.ListN.{getD}
+use Rattle.octets.specs.Choice.{same}
+use Rattle.sheet.specs.Value.{rowOf, nameOf}
+use Rattle.sheet.proofs.SeatLaws.{take-nameOf, same-rowOf, goodRow-stained, goodRow-unused, goodRow-used}
 use Rattle.sheet.proofs.seat.is_good_row.Statement.{statement}
 use Rattle.sheet.proofs.seat.is_good_row.Tie as tie
 
 abbrev row : tie.After-zeros-from → List ℕ
 row c = let a = c .before .before .before .before .args in getD (a .users .now) (a .s) []
 
--- whether zeros stand behind the name
-clean : (c : tie.After-zeros-from) → zerosFrom (row c) (length (nameOf (row c))) ≡ c .zeros-from .result
-clean c = rw (c .before .name-length .ensures) at (sym (c .zeros-from .ensures))
+-- whether the row is its name at fixed width
+clean : (c : tie.After-zeros-from) → same (row c) (rowOf (nameOf (row c))) ≡ c .zeros-from .result
+clean c = same-rowOf (row c) (c .before .before .row2 .given .0) ∙ rw (c .before .name-length .ensures) at (sym (c .zeros-from .ensures))
 
 mul-row : tie.Need-mul-row
 mul-row c = search needs

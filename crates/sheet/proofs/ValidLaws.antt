@@ -1,0 +1,364 @@
+-- Laws on a value judged without its text: the struct line by line, and the User IDs row by row. Assumes nothing.
+use mathlib.Core.Path.{_≡_, refl, sym, ap, ap₂, _∙_, subst}
+use mathlib.Core.Logic.{⊎-elim}
+use mathlib.Core.Bool.{Bool, true, false, not, _&&_, and-assoc}
+use mathlib.Core.List.{List, [], _∷_, _++_, map, append-nil, append-assoc}
+use Prim.Native.Nat.{ℕ, zero, suc, _+_, _-_, _≤_, _<_, suc-le-suc}
+use native.Mathlib.Nat.{zero-lt-suc}
+use native.Mathlib.Numerals.{add-one}
+use native.Mathlib.Omega.{arith}
+use lib.ListN.{length, getD, take, drop, length-append, length-take, length-map, drop-of-length-le, List·getD-append, List·getD-map, List·getD-eq-default}
+use lib.Seq.{length-take-le, drop-cons, take-suc, take-all, take-take, getD-take, take-append-add, drop-append-add, getD-append-add, ext-getD}
+use lib.Dec.{T, T-not, eqb, eqb→eq}
+use Rattle.octets.specs.Choice.{same, some-of}
+use Rattle.octets.specs.Buffer.{zerosFrom, padded}
+use Rattle.octets.proofs.Choice.{T-true, true-T, T-false, false-T, T-and, T-and-left, T-and-right, same-eq, eq-same, le-or-lt}
+use Rattle.octets.proofs.Buffer.{zerosFrom-end, zerosFrom-step, getD-padded, length-padded}
+use Rattle.sheet.specs.declared.Sheet.{Sheet}
+use Rattle.sheet.specs.Table.{table, numberLines, seatsLine, mostSeats, rowAt}
+use Rattle.sheet.specs.Line.{Entry}
+use Rattle.sheet.specs.Judge.{numbersIn, namesIn, goodNumber, goodName, userId, good, inTurn, whole, valid}
+use Rattle.sheet.specs.Value.{sheetFrom, sheetOf, rowOf, usersOf, numbersOf, nameOf, alone, seatEntries, entriesOf, validWith, validAlone}
+use Rattle.sheet.specs.Find.{seatOfUser}
+use Rattle.sheet.specs.Inner.{newName, goodRow}
+use Rattle.sheet.proofs.Judged.{eq-whole, length-numbersIn, length-namesIn, inTurn-at, good-name}
+use Rattle.sheet.proofs.Fresh.{seats-bound}
+use Rattle.sheet.proofs.NumberLaws.{getD-default}
+use Rattle.sheet.proofs.SeatLaws.{take-nameOf, same-padded, goodRow-unused, goodRow-used}
+use Rattle.sheet.proofs.Laid.{numbersIn-seats, unnamed, nameOf-rowOf, valid-good, valid-entries, usersOf-entries, sheetFrom-numbers, laid-valid}
+use Rattle.sheet.proofs.Scanned.{isNone-first, some-of-append, some-of-alone, seat-named}
+use Rattle.sheet.proofs.Claims.{valid-alone-exactly}
+
+-- ---- a struct's numbers, line by line
+
+-- what is to be judged from place k on: the numbers of the lines, each behind those before it, and zeros behind the lines
+pub restGood : List ℕ → ℕ → ℕ → Bool
+restGood numbers lines k =
+    let ns = take lines numbers in
+    inTurn goodNumber (take k ns) (drop k ns) && zerosFrom numbers (k + (lines - k))
+
+module _ (numbers : List ℕ) (lines k : ℕ) where
+  -- a line's number
+  pub restGood-line : k < lines → lines ≤ length numbers
+      → restGood numbers lines k ≡ (goodNumber (take k numbers) (getD numbers k 0) && restGood numbers lines (k + 1))
+  unfolding restGood inTurn
+  restGood-line h l =
+      let ns = take lines numbers in
+      let m : k < length ns = rw (length-take-le lines numbers l) h in
+      let e : k + 1 + (lines - (k + 1)) ≡ k + (lines - k) = omega arith in
+      rw (e, add-one, take-suc ns k 0 m, drop-cons ns k 0 m, take-take k lines numbers (omega arith), getD-take lines numbers k 0 h)
+      (and-assoc (goodNumber (take k numbers) (getD numbers k 0)) _ (zerosFrom numbers (k + (lines - k))))
+
+  -- a place behind the lines
+  pub restGood-past : lines ≤ k → k < length numbers → restGood numbers lines k ≡ (eqb (getD numbers k 0) 0 && restGood numbers lines (k + 1))
+  unfolding restGood inTurn
+  restGood-past h l =
+      let ns = take lines numbers in
+      let m : length ns ≤ k = rw (length-take lines numbers) (omega arith) in
+      let e : k + (lines - k) ≡ k = omega arith in
+      let e′ : k + 1 + (lines - (k + 1)) ≡ k + 1 = omega arith in
+      rw (e, e′, drop-of-length-le ns m, drop-of-length-le ns {i = k + 1} (omega arith)) (zerosFrom-step numbers k l)
+
+  -- no place is left
+  pub restGood-end : lines ≤ k → length numbers ≤ k → restGood numbers lines k ≡ true
+  unfolding restGood inTurn
+  restGood-end h l =
+      let ns = take lines numbers in
+      let m : length ns ≤ k = rw (length-take lines numbers) (omega arith) in
+      let e : k + (lines - k) ≡ k = omega arith in
+      rw (e, drop-of-length-le ns m) (T-true (zerosFrom numbers k) (zerosFrom-end numbers k l))
+
+-- all of it, where the seats are no more than eight
+pub restGood-all : (s : Sheet) → length (s .ssrcs) ≡ mostSeats → s .seats ≤ mostSeats
+    → validAlone s ≡ restGood (numbersOf s ++ s .ssrcs) (numberLines + s .seats) 0
+unfolding restGood validAlone numbersOf sheetFrom numberLines seatsLine table zerosFrom
+restGood-all s eight h =
+    let xs = take (s .seats) (s .ssrcs) in
+    let l : length xs ≡ s .seats = length-take-le (s .seats) (s .ssrcs) (omega arith) in
+    let w : T (whole (numbersOf s ++ xs)) = eq-whole (numbersOf s ++ xs) (length-append (numbersOf s) xs ∙ ap (λ (n : ℕ). numberLines + n) l) in
+    let z : same (s .ssrcs) (padded mostSeats 0 xs) ≡ zerosFrom (s .ssrcs) (s .seats) =
+    ap (λ (n : ℕ). same (s .ssrcs) (padded n 0 xs)) (sym eight) ∙ same-padded (s .ssrcs) (s .seats) (omega arith) in
+    let e : 0 + (numberLines + s .seats - 0) ≡ numberLines + s .seats = omega arith in
+    rw (T-true (whole (numbersOf s ++ xs)) w, z, e, take-append-add (numbersOf s) (s .ssrcs) (s .seats), drop-append-add (numbersOf s) (s .ssrcs) (s .seats))
+
+-- "seats (1 to 8)"
+few-seats : (s : Sheet) → T (validAlone s) → s .seats ≤ mostSeats
+unfolding validAlone numbersOf seatsLine numberLines table
+few-seats s t =
+    let ns = numbersOf s ++ take (s .seats) (s .ssrcs) in
+    seats-bound ns (T-and-left (inTurn goodNumber [] ns) _ t)
+
+-- a struct with more seats is no sheet's
+pub many-seats : (s : Sheet) → mostSeats < s .seats → validAlone s ≡ false
+many-seats s h = T-false (validAlone s) (λ t. let b : s .seats ≤ mostSeats = few-seats s t in omega arith)
+
+-- ---- a name is new among the rows exactly if it is new among the names in them
+
+-- the first of those that are mapped
+map-take : {A B : Type 0} (f : A → B) (n : ℕ) (xs : List A) → map f (take n xs) ≡ take n (map f xs)
+map-take f zero xs = refl
+map-take f (suc n) [] = refl
+map-take f (suc n) (x ∷ xs) = ap (λ (ys : List _). f x ∷ ys) (map-take f n xs)
+
+-- a test of what each is mapped to
+some-of-map : {A B : Type 0} (p : B → Bool) (f : A → B) (xs : List A) → some-of p (map f xs) ≡ some-of (λ (x : A). p (f x)) xs
+some-of-map p f [] = refl
+some-of-map p f (x ∷ xs) = rw (some-of-map p f xs)
+
+-- the lines with a number alone before them have no name
+new-among : (ns : List ℕ) (i : ℕ) (users : List (List ℕ)) (name : List ℕ)
+    → newName i users name ≡ (userId name && not (some-of (λ (other : List ℕ). same other name) (namesIn (map alone ns) ++ map nameOf (take i users))))
+unfolding newName seatOfUser userId
+new-among ns i users [] = refl
+new-among ns i users (c ∷ cs) =
+    let q : List ℕ → Bool = λ other. same other (c ∷ cs) in
+    rw (some-of-append q (namesIn (map alone ns)) (map nameOf (take i users)), some-of-alone ns c cs, some-of-map q nameOf (take i users), isNone-first (λ (row : List ℕ). same (nameOf row) (c ∷ cs)) (take i users))
+
+-- ---- a row is good exactly if a name is laid out in it, none where no seat is, and the name is new
+
+module _ (seats : ℕ) (users : List (List ℕ)) (i : ℕ) where
+  abbrev row : List ℕ
+  row = getD users i []
+
+  -- the name that is to stand there
+  abbrev held : List ℕ
+  held = nameOf (getD (take seats users) i [])
+
+  -- the row's own, where a seat is
+  held-seat : i < seats → held ≡ nameOf row
+  held-seat h = ap nameOf (getD-take seats users i [] h)
+
+  -- none, where no seat is
+  held-none : seats ≤ i → held ≡ []
+  unfolding nameOf
+  held-none h = ap nameOf (List·getD-eq-default (take seats users) [] {n = i} (rw (length-take seats users) (omega arith)))
+
+  -- a row that it is laid out to is good, if it is new where a seat is
+  laid-good : row ≡ rowOf held → (i < seats → T (newName i users (nameOf row))) → T (goodRow seats users i)
+  laid-good e new =
+      true-T (goodRow seats users i)
+      (⊎-elim
+      (λ h.
+      let e′ : row ≡ rowOf [] = e ∙ ap rowOf (held-none h) in
+      let n : nameOf row ≡ [] = ap nameOf e′ ∙ nameOf-rowOf [] tt in
+      goodRow-unused seats users i (fixed-width (e′ ∙ ap rowOf (sym n))) h ∙ rw n)
+      (λ h. goodRow-used seats users i (fixed-width (e ∙ ap rowOf (held-seat h))) h ∙ T-true (newName i users (nameOf row)) (new h))
+      (le-or-lt seats i))
+    where
+      fixed-width : row ≡ rowOf (nameOf row) → same row (rowOf (nameOf row)) ≡ true
+      fixed-width q = T-true (same row (rowOf (nameOf row))) (eq-same row (rowOf (nameOf row)) q)
+
+  module _ (t : T (goodRow seats users i)) where
+    -- a good row is its name at fixed width
+    whole-row : same row (rowOf (nameOf row)) ≡ true
+    unfolding goodRow
+    whole-row = T-true (same row (rowOf (nameOf row))) (T-and-left (same row (rowOf (nameOf row))) _ t)
+
+    -- which is new, where a seat is
+    good-new : i < seats → T (newName i users (nameOf row))
+    good-new h = rw (goodRow-used seats users i whole-row h) at t
+
+    -- and none, where no seat is
+    nothing-held : seats ≤ i → nameOf row ≡ []
+    nothing-held h =
+        let z : length (nameOf row) ≡ 0 = eqb→eq (length (nameOf row)) 0 (rw (goodRow-unused seats users i whole-row h) at t) in
+        rw z at (sym (take-nameOf row))
+
+    -- so that the row is what is to be held, laid out
+    good-laid : row ≡ rowOf held
+    good-laid =
+        same-eq row (rowOf (nameOf row)) (true-T _ whole-row)
+        ∙ ap rowOf (⊎-elim (λ h. nothing-held h ∙ sym (held-none h)) (λ h. sym (held-seat h)) (le-or-lt seats i))
+
+-- ---- the entries that a value stands for, one by one
+
+-- the User IDs of the seats, as far as there are rows
+names-seats : (xs : List ℕ) (us : List (List ℕ)) → namesIn (seatEntries xs us) ≡ map nameOf (take (length xs) us)
+unfolding seatEntries
+names-seats [] us = refl
+names-seats (x ∷ xs) [] = refl
+names-seats (x ∷ xs) (u ∷ us) = ap (λ (l : List (List ℕ)). nameOf u ∷ l) (names-seats xs us)
+
+-- no name is good on a line with a number alone
+no-name : (b : List Entry) → length b < numberLines → goodName (namesIn b) [] ≡ true
+unfolding goodName
+no-name b h =
+    let n : rowAt (length b) .named ≡ false = T-false (rowAt (length b) .named) (T-not (rowAt (length b) .named) (unnamed (length b) h)) in
+    rw (length-namesIn b, n)
+
+-- each good behind those before it, so all in turn
+at-inTurn : {A : Type 0} (p : List A → A → Bool) (d : A) (b xs : List A) → ((k : ℕ) → k < length xs → T (p (b ++ take k xs) (getD xs k d)))
+    → T (inTurn p b xs)
+unfolding inTurn
+at-inTurn p d b [] h = tt
+at-inTurn p d b (x ∷ xs) h =
+    T-and (p b x) (inTurn p (b ++ (x ∷ [])) xs) (rw (append-nil b) at (h zero (zero-lt-suc (length xs))))
+    (at-inTurn p d (b ++ (x ∷ [])) xs (λ k l. rw (append-assoc b (x ∷ []) (take k xs)) (h (suc k) (suc-le-suc l))))
+
+-- a struct that is a sheet's, with eight rows beside it
+module _ (s : Sheet) (users : List (List ℕ)) (eight : length (s .ssrcs) ≡ mostSeats) (rows : length users ≡ mostSeats) (t : T (validAlone s)) where
+  abbrev es : List Entry
+  es = entriesOf s users
+
+  abbrev xs : List ℕ
+  xs = take (s .seats) (s .ssrcs)
+
+  abbrev seated : List (List ℕ)
+  seated = take (s .seats) users
+
+  abbrev blank : List (List ℕ)
+  blank = namesIn (map alone (numbersOf s))
+
+  -- no more seats than SSRCs and rows
+  few : s .seats ≤ mostSeats
+  few = few-seats s t
+
+  length-xs : length xs ≡ s .seats
+  length-xs = length-take-le (s .seats) (s .ssrcs) (omega (arith, few))
+
+  -- the entries' numbers, names, and how many they are
+  entries-numbers : numbersIn es ≡ numbersOf s ++ xs
+  unfolding entriesOf numbersOf
+  entries-numbers =
+      ap (λ (ns : List ℕ). numbersOf s ++ ns) (numbersIn-seats xs users ∙ take-all (length users) xs (omega (arith, few, length-xs)))
+
+  entries-names : namesIn es ≡ blank ++ map nameOf seated
+  unfolding entriesOf numbersOf
+  entries-names =
+      ap (λ (names : List (List ℕ)). blank ++ names) (names-seats xs users ∙ ap (λ (n : ℕ). map nameOf (take n users)) length-xs)
+
+  length-entries : length es ≡ numberLines + s .seats
+  unfolding numbersOf numberLines table
+  length-entries =
+      sym (length-numbersIn es) ∙ ap length entries-numbers ∙ length-append (numbersOf s) xs ∙ ap (λ (n : ℕ). numberLines + n) length-xs
+
+  -- the number of entry k is judged as the struct's
+  number-judged : (k : ℕ) → goodNumber (numbersIn (take k es)) (getD es k (alone 0) .number) ≡ goodNumber (take k (numbersOf s ++ xs)) (getD (numbersOf s ++ xs) k 0)
+  number-judged k =
+      ap₂ goodNumber
+      (map-take (λ (e : Entry). e .number) k es ∙ ap (take k) entries-numbers)
+      (sym (List·getD-map (λ (e : Entry). e .number) es k (alone 0)) ∙ ap (λ (ns : List ℕ). getD ns k 0) entries-numbers)
+
+  -- a line with a number alone has no name
+  name-alone : (k : ℕ) → k < numberLines → getD es k (alone 0) .name ≡ []
+  unfolding entriesOf numbersOf numberLines table
+  name-alone k h =
+      ap (λ (e : Entry). e .name)
+      (List·getD-append (map alone (numbersOf s)) (seatEntries xs users) (alone 0) k h ∙ List·getD-map alone (numbersOf s) k 0)
+
+  -- the names before seat i, and its own
+  names-before : (i : ℕ) → i ≤ s .seats → namesIn (take (numberLines + i) es) ≡ blank ++ map nameOf (take i users)
+  unfolding numbersOf numberLines table
+  names-before i h =
+      map-take (λ (e : Entry). e .name) (numberLines + i) es
+      ∙ ap (take (numberLines + i)) entries-names
+      ∙ take-append-add blank (map nameOf seated) i
+      ∙ ap (λ (names : List (List ℕ)). blank ++ names) (sym (map-take nameOf i seated) ∙ ap (map nameOf) (take-take i (s .seats) users h))
+
+  name-at : (i : ℕ) → i < s .seats → getD es (numberLines + i) (alone 0) .name ≡ nameOf (getD users i [])
+  unfolding numbersOf numberLines table nameOf
+  name-at i h =
+      sym (List·getD-map (λ (e : Entry). e .name) es (numberLines + i) (alone 0))
+      ∙ ap (λ (names : List (List ℕ)). getD names (numberLines + i) []) entries-names
+      ∙ getD-append-add blank (map nameOf seated) i []
+      ∙ List·getD-map nameOf seated i []
+      ∙ ap nameOf (getD-take (s .seats) users i [] h)
+
+  -- a seat's name is judged as its row's
+  name-judged : (i : ℕ) → i < s .seats
+      → goodName (namesIn (take (numberLines + i) es)) (getD es (numberLines + i) (alone 0) .name) ≡ newName i users (nameOf (getD users i []))
+  name-judged i h =
+      let l : length (take (numberLines + i) es) ≡ numberLines + i = length-take-le (numberLines + i) es (rw length-entries (omega arith)) in
+      let name = nameOf (getD users i []) in
+      ap (goodName (namesIn (take (numberLines + i) es))) (name-at i h)
+      ∙ seat-named (take (numberLines + i) es) name (omega arith)
+      ∙ ap (λ (names : List (List ℕ)). userId name && not (some-of (λ (other : List ℕ). same other name) names)) (names-before i (omega arith))
+      ∙ sym (new-among (numbersOf s) i users name)
+
+  -- the rows that the entries are laid out to
+  users-laid : usersOf es ≡ padded mostSeats (rowOf []) (map rowOf (map nameOf seated))
+  unfolding usersOf numbersOf numberLines table
+  users-laid = ap (λ (names : List (List ℕ)). padded mostSeats (rowOf []) (map rowOf (drop numberLines names))) entries-names
+
+  -- eight of them
+  length-laid : length (usersOf es) ≡ length users
+  length-laid =
+      let l : length seated ≡ s .seats = length-take-le (s .seats) users (omega (arith, few)) in
+      ap length users-laid
+      ∙ length-padded mostSeats (rowOf []) (map rowOf (map nameOf seated)) (omega (arith, few, length-map (map nameOf seated) rowOf, length-map seated nameOf))
+      ∙ sym rows
+
+  -- one by one
+  row-laid : (i : ℕ) → getD (usersOf es) i (rowOf []) ≡ rowOf (held (s .seats) users i)
+  unfolding nameOf
+  row-laid i =
+      ap (λ (us : List (List ℕ)). getD us i (rowOf [])) users-laid
+      ∙ getD-padded mostSeats (rowOf []) (map rowOf (map nameOf seated)) i
+      ∙ List·getD-map rowOf (map nameOf seated) i []
+      ∙ ap rowOf (List·getD-map nameOf seated i [])
+
+  -- ---- a value is a sheet's exactly if its struct is and each row is good
+
+  -- the value is a sheet's, so each row is good
+  pub valid-rows : T (validWith s users) → (i : ℕ) → i < mostSeats → T (goodRow (s .seats) users i)
+  valid-rows v i h =
+      let laid : getD users i [] ≡ rowOf (held (s .seats) users i) =
+      getD-default users i [] (rowOf []) (omega arith)
+      ∙ ap (λ (us : List (List ℕ)). getD us i (rowOf [])) (sym (usersOf-entries s users v))
+      ∙ row-laid i in
+      laid-good (s .seats) users i laid
+      (λ l.
+      let k : numberLines + i < length es = rw length-entries (omega arith) in
+      rw (name-judged i l) at
+      (good-name (take (numberLines + i) es) (getD es (numberLines + i) (alone 0))
+      (inTurn-at good es (numberLines + i) (alone 0) (valid-good es (valid-entries s users v)) k)))
+
+  module _ (good-rows : (i : ℕ) → i < mostSeats → T (goodRow (s .seats) users i)) where
+    -- each row is good, so each entry's name is
+    good-names : (k : ℕ) → k < length es → T (goodName (namesIn (take k es)) (getD es k (alone 0) .name))
+    good-names k h =
+        let n : length es ≡ numberLines + s .seats = length-entries in
+        ⊎-elim
+        (λ (l : numberLines ≤ k).
+        let i = k - numberLines in
+        let m : i < s .seats = omega arith in
+        let e : numberLines + i ≡ k = omega arith in
+        subst (λ (j : ℕ). T (goodName (namesIn (take j es)) (getD es j (alone 0) .name))) e
+        (rw (name-judged i m) (good-new (s .seats) users i (good-rows i (omega (arith, few))) m)))
+        (λ (l : k < numberLines).
+        rw (name-alone k l)
+        (true-T (goodName (namesIn (take k es)) []) (no-name (take k es) (rw (length-take-le k es (omega arith)) l))))
+        (le-or-lt numberLines k)
+
+    -- and each entry, the numbers being the struct's
+    good-entries : T (inTurn good [] es)
+    unfolding good validAlone
+    good-entries =
+        let g : T (inTurn goodNumber [] (numbersOf s ++ xs)) = T-and-left (inTurn goodNumber [] (numbersOf s ++ xs)) _ t in
+        at-inTurn good (alone 0) [] es
+        (λ k h.
+        let l : k < length (numbersOf s ++ xs) = rw (← entries-numbers, length-numbersIn es) h in
+        T-and (goodNumber (numbersIn (take k es)) (getD es k (alone 0) .number)) (goodName (namesIn (take k es)) (getD es k (alone 0) .name))
+        (rw (number-judged k) (inTurn-at goodNumber (numbersOf s ++ xs) k 0 g l))
+        (good-names k h))
+
+    -- and the value is a sheet's
+    pub rows-valid : T (validWith s users)
+    unfolding validAlone valid sheetOf
+    rows-valid =
+        let ns = numbersOf s ++ xs in
+        let r : T (whole ns && same (s .ssrcs) (sheetFrom ns .ssrcs)) = T-and-right (inTurn goodNumber [] ns) _ t in
+        let v : T (valid es) = T-and (inTurn good [] es) (whole (numbersIn es)) good-entries (rw entries-numbers (T-and-left (whole ns) _ r)) in
+        let q : sheetOf es ≡ s = ap sheetFrom entries-numbers ∙ sheetFrom-numbers s xs (same-eq (s .ssrcs) (sheetFrom ns .ssrcs) (T-and-right (whole ns) _ r)) in
+        let u : usersOf es ≡ users =
+        ext-getD (rowOf []) (usersOf es) users length-laid
+        (λ i h.
+        let l : i < length users = rw length-laid at h in
+        row-laid i
+        ∙ sym (good-laid (s .seats) users i (good-rows i (omega arith)))
+        ∙ getD-default users i [] (rowOf []) l) in
+        subst (λ (x : Sheet). T (validWith x users)) q (subst (λ (us : List (List ℕ)). T (validWith (sheetOf es) us)) u (laid-valid es v))
+
+-- a struct that is no sheet's is none with any User IDs
+pub not-alone : (s : Sheet) (users : List (List ℕ)) → validAlone s ≡ false → validWith s users ≡ false
+not-alone s users e = T-false (validWith s users) (λ v. false-T (validAlone s) e (valid-alone-exactly s .1 (users, v)))
