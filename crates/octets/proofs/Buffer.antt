@@ -9,12 +9,13 @@ use native.Mathlib.Omega.{arith}
 use mathlib.Core.Bool.{_&&_}
 use mathlib.Core.List.{List, [], _∷_, _++_, append-nil, append-assoc}
 use lib.ListN.{length, getD, set, take, drop, replicate, length-append, length-drop, length-take, length-set, length-replicate, drop-of-length-le, List·getD-eq-default, List·getD-append}
-use lib.Seq.{take-append-seam, drop-append-seam, set-append-seam, drop-append-add, drop-drop, drop-cons, set-split, set-out, length-take-le, take-at, drop-at, set-append-left, getD-drop, getD-take, ext-getD}
+use lib.Seq.{take-append-seam, take-suc, drop-append-seam, set-append-seam, drop-append-add, drop-drop, drop-cons, set-split, set-out, length-take-le, take-at, drop-at, set-append-left, getD-drop, getD-take, ext-getD}
 use lib.Dec.{T, eqb, eqb→eq}
 use borrow.Author.Tests.{le-leb, lt-leb}
+use Rattle.octets.specs.Choice.{same}
 use Rattle.octets.specs.Buffer.{over, putAt, zerosFrom, padded}
 use Rattle.octets.specs.Big.{bigAt, bigOf}
-use Rattle.octets.proofs.Choice.{le-or-lt, every-getD, getD-every, every-replicate}
+use Rattle.octets.proofs.Choice.{le-or-lt, test-eq, same-eq, eq-same, every-getD, getD-every, every-replicate}
 use Rattle.octets.proofs.Big.{length-bigOf, bigOf-add, bigAt-put}
 
 -- ---- a buffer overwritten from its front
@@ -48,6 +49,13 @@ pub set-over : (xs s : List ℕ) (y : ℕ) → length xs < length s → set (ove
 unfolding over
 set-over xs s y h =
     rw (drop-cons s (length xs) 0, set-append-seam, length-append, add-one, append-assoc)
+
+-- one octet more
+pub set-over-take : (name row : List ℕ) (i : ℕ) → i < length name → length name ≤ length row
+    → set (over (take i name) row) i (getD name i 0) ≡ over (take (i + 1) name) row
+set-over-take name row i h l =
+    let e : length (take i name) ≡ i = length-take-le i name (omega arith) in
+    rw (add-one, take-suc name i 0 h) (rw e at (set-over (take i name) row (getD name i 0) (rw e (omega arith))))
 
 -- ---- octets put at a place
 
@@ -249,3 +257,11 @@ padded-zerosFrom s at t h =
   where
     past : (i : ℕ) → at ≤ i → getD (take at s) i 0 ≡ getD s i 0
     past i h′ = rw (List·getD-eq-default (take at s) 0 {n = i} (omega (arith, length-take-le at s h)), zerosFrom-getD s at i t h′)
+
+-- a list is its front filled up with zeros exactly if zeros stand behind the front
+pub same-padded : (s : List ℕ) (at : ℕ) → at ≤ length s → same s (padded (length s) 0 (take at s)) ≡ zerosFrom s at
+same-padded s at h =
+    let p = padded (length s) 0 (take at s) in
+    test-eq (same s p) (zerosFrom s at)
+    (λ t. rw (← same-eq s p t, length-take-le at s h) at (zerosFrom-padded (length s) (take at s)))
+    (λ z. eq-same s p (sym (padded-zerosFrom s at z h)))

@@ -2,12 +2,13 @@
 -- Assumes nothing.
 use mathlib.Core.Path.{_≡_, refl, sym, ap, ap₂, subst}
 use mathlib.Core.Logic.{_⊎_, inl, inr, ⊎-elim}
-use mathlib.Core.Bool.{Bool, true, false, _&&_, _||_, and-eq-true-iff, and-assoc}
-use mathlib.Core.List.{List, [], _∷_, _++_}
+use mathlib.Core.Bool.{Bool, true, false, _&&_, _||_, and-eq-true-iff, and-assoc, or-assoc}
+use mathlib.Core.List.{List, [], _∷_, _++_, map}
 use mathlib.Core.Option.{none, some, Option·map, Option·some-ne-none, Option·none-ne-some, Option·some-injective, map-eq-none-iff, map-eq-some-iff}
 use Prim.Native.Nat.{ℕ, zero, suc, _+_, _≤_, _<_, zero-le, suc-le-suc}
 use native.Mathlib.Nat.{le-of-suc-le-suc, not-suc-le-zero, zero-lt-suc}
 use native.Mathlib.Numerals.{add-one}
+use native.Mathlib.Omega.{arith}
 use lib.ListN.{length, getD, drop, replicate, drop-of-length-le}
 use lib.Seq.{drop-cons}
 use lib.Dec.{T, leb, eqb, leb→le, eqb→eq, eqb-refl}
@@ -42,6 +43,11 @@ decide false = inr refl
 -- of two numbers the first is at most the second, or the second is below it
 pub le-or-lt : (a b : ℕ) → (a ≤ b) ⊎ (b < a)
 le-or-lt a b = ⊎-elim (λ t. inl (leb→le a b t)) (λ e. inr (leb-false a b e)) (decide (leb a b))
+
+-- two tests that hold together are one
+pub test-eq : (a b : Bool) → (T a → T b) → (T b → T a) → a ≡ b
+test-eq true b f g = sym (T-true b (f tt))
+test-eq false b f g = sym (T-false b g)
 
 -- ---- both tests, and either
 
@@ -117,6 +123,14 @@ same-eq (x ∷ xs) [] t = absurd t
 same-eq (x ∷ xs) (y ∷ ys) t =
     rw (eqb→eq x y (T-and-left (eqb x y) (same xs ys) t), same-eq xs ys (T-and-right (eqb x y) (same xs ys) t))
 
+-- lists of two lengths are not the same
+pub same-length : (xs ys : List ℕ) → (length xs ≡ length ys → ⊥) → same xs ys ≡ false
+same-length xs ys h = T-false (same xs ys) (λ t. h (ap length (same-eq xs ys t)))
+
+-- no place is left
+pub same-end : (xs ys : List ℕ) (i : ℕ) → length xs ≤ i → length ys ≤ i → same (drop i xs) (drop i ys) ≡ true
+same-end xs ys i h l = rw (drop-of-length-le xs h, drop-of-length-le ys l)
+
 -- ---- begins: a list begins with another
 
 -- a list with more behind it begins with it
@@ -139,6 +153,20 @@ begins-of-append [] ys s = refl
 begins-of-append (x ∷ xs) ys [] = refl
 begins-of-append (x ∷ xs) ys (y ∷ s) = rw (begins-of-append xs ys s) (sym (and-assoc (eqb x y) (begins xs s) (begins ys (drop (length xs) s))))
 
+-- ---- a test at every number below a bound: how what holds of a small table is computed
+
+-- a test at every number below n
+abbrev pub allBelow : ℕ → (ℕ → Bool) → Bool
+allBelow zero p = true
+allBelow (suc n) p = p n && allBelow n p
+
+pub below : (n : ℕ) (p : ℕ → Bool) → T (allBelow n p) → (k : ℕ) → k < n → T (p k)
+below zero p t k l = absurd (not-suc-le-zero l)
+below (suc n) p t k l =
+    ⊎-elim (λ h. below n p (T-and-right (p n) (allBelow n p) t) k h)
+    (λ h. subst (λ (i : ℕ). T (p i)) (omega arith) (T-and-left (p n) (allBelow n p) t))
+    (le-or-lt (suc k) n)
+
 -- ---- every: a test holds of each element
 
 module _ {ℓ} {A : Type ℓ} (p : A → Bool) where
@@ -158,11 +186,23 @@ module _ {ℓ} {A : Type ℓ} (p : A → Bool) where
   every-getD (x ∷ xs) zero d t h = T-and-left (p x) (every p xs) t
   every-getD (x ∷ xs) (suc i) d t h = every-getD xs i d (T-and-right (p x) (every p xs) t) (le-of-suc-le-suc h)
 
+  -- and of what stands for an element past the end
+  pub every-getD-or : (xs : List A) (i : ℕ) (d : A) → T (every p xs) → T (p d) → T (p (getD xs i d))
+  every-getD-or [] i d t s = s
+  every-getD-or (x ∷ xs) zero d t s = T-and-left (p x) (every p xs) t
+  every-getD-or (x ∷ xs) (suc i) d t s = every-getD-or xs i d (T-and-right (p x) (every p xs) t) s
+
   -- the test holds at each index, so of each element
   pub getD-every : (xs : List A) (d : A) → ((i : ℕ) → i < length xs → T (p (getD xs i d))) → T (every p xs)
   getD-every [] d h = tt
   getD-every (x ∷ xs) d h =
       T-and (p x) (every p xs) (h zero (zero-lt-suc (length xs))) (getD-every xs d (λ i l. h (suc i) (suc-le-suc l)))
+
+-- what holds of each by one test holds by a weaker one
+pub every-weaker : (p q : ℕ → Bool) → ((c : ℕ) → T (p c) → T (q c)) → (cs : List ℕ) → T (every p cs) → T (every q cs)
+every-weaker p q h [] t = tt
+every-weaker p q h (c ∷ cs) t =
+    T-and (q c) (every q cs) (h c (T-and-left (p c) (every p cs) t)) (every-weaker p q h cs (T-and-right (p c) (every p cs) t))
 
 -- ---- front: the longest front of which a test holds
 
@@ -245,6 +285,15 @@ module _ {ℓ} {A : Type ℓ} (p : A → Bool) where
   some-of-false [] d h = refl
   some-of-false (x ∷ xs) d h =
       rw (h zero (zero-lt-suc (length xs)), some-of-false xs d (λ i l. h (suc i) (suc-le-suc l)))
+
+pub some-of-append : {A : Type 0} (p : A → Bool) (xs ys : List A) → some-of p (xs ++ ys) ≡ (some-of p xs || some-of p ys)
+some-of-append p [] ys = refl
+some-of-append p (x ∷ xs) ys = rw (some-of-append p xs ys) (sym (or-assoc (p x) (some-of p xs) (some-of p ys)))
+
+-- a test of what each is mapped to
+pub some-of-map : {A B : Type 0} (p : B → Bool) (f : A → B) (xs : List A) → some-of p (map f xs) ≡ some-of (λ (x : A). p (f x)) xs
+some-of-map p f [] = refl
+some-of-map p f (x ∷ xs) = rw (some-of-map p f xs)
 
 -- ---- first-place: where a test first holds of an element
 

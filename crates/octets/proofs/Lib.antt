@@ -1,4 +1,6 @@
+pub mod Lists
 pub mod Choice
+pub mod Places
 pub mod Big
 pub mod Buffer
 pub mod Text

@@ -1,18 +1,19 @@
 -- Laws of numbers in decimal: a number's digits make the number, and digits without leading zeros are those of their number.
 -- The count that bounds the digits is dropped once, in `decimal-small` and `decimal-large`; all else goes by `decimal-ind`. Assumes nothing.
-use mathlib.Core.Path.{_≡_, refl, sym, ap, _∙_}
+use mathlib.Core.Path.{_≡_, refl, sym, ap, _∙_, subst}
 use mathlib.Core.Logic.{⊎-elim}
-use mathlib.Core.Bool.{true, not}
+use mathlib.Core.Bool.{true, false, not, _&&_}
 use mathlib.Core.List.{List, [], _∷_, _++_, append-nil, append-assoc}
 use Prim.Native.Nat.{ℕ, zero, suc, _+_, _-_, _*_, _/_, _%_, _^_, _≤_, _<_}
-use native.Mathlib.Nat.{not-suc-le-zero, lt-of-lt-of-le, mul-le-mul-right, mul-assoc, mul-one, one-mul, pow-zero, pow-suc, pow-succ', div-lt-iff-lt-mul, zero-lt-suc}
+use native.Mathlib.Nat.{not-suc-le-zero, le-of-suc-le-suc, lt-of-lt-of-le, mul-le-mul-right, mul-assoc, mul-one, one-mul, pow-zero, pow-suc, pow-succ', div-lt-iff-lt-mul, zero-lt-suc}
 use native.Mathlib.Omega.{arith}
-use lib.ListN.{length, getD, length-append, List·getD-append}
+use lib.ListN.{length, getD, take, drop, length-append, List·getD-append}
 use lib.Dec.{T, leb, eqb, leb→le, le→leb}
 use borrow.Author.Tests.{lt-ltb, le-ltb, ne-eqb, eqb-false, not-true}
-use Rattle.octets.specs.Choice.{every}
+use Rattle.octets.specs.Choice.{begins, every, front}
 use Rattle.octets.specs.Text.{digit, valueFrom, valueOf, decimalBy, decimal, plain}
-use Rattle.octets.proofs.Choice.{le-or-lt, T-true, T-and, T-and-left, T-and-right, every-append}
+use Rattle.octets.proofs.Choice.{le-or-lt, decide, T-true, T-false, false-T, T-and, T-and-left, T-and-right, begins-split, begins-of-append, every-append, every-front, front-append}
+use Rattle.octets.proofs.Places.{begins-front}
 
 -- ---- the equations of decimal
 
@@ -191,3 +192,32 @@ decimal-value (c ∷ d ∷ ds) t u =
     let low = digit-low c first in
     let apart = eqb-false c 48 (not-true (eqb c 48) (T-true (not (eqb c 48)) u)) in
     rw (decimal-digit c first) at (decimal-valueFrom (0 + (c - 48)) (d ∷ ds) (omega arith) (T-and-right (digit c) (every digit (d ∷ ds)) t))
+
+-- ---- a number at the front of a text
+
+-- of two digits and more the first decides whether they are plain
+pub plain-take : (n : ℕ) (s : List ℕ) → 2 ≤ n → n ≤ length s → plain (take n s) ≡ not (eqb (getD s 0 0) 48)
+plain-take zero s h l = absurd (not-suc-le-zero h)
+plain-take (suc zero) s h l = absurd (not-suc-le-zero (le-of-suc-le-suc h))
+plain-take (suc (suc n)) [] h l = absurd (not-suc-le-zero l)
+plain-take (suc (suc n)) (x ∷ []) h l = absurd (not-suc-le-zero (le-of-suc-le-suc l))
+plain-take (suc (suc n)) (x ∷ y ∷ s) h l = refl
+
+-- the digits of what begins with a number, and then with no digit, are that number's
+pub front-decimal : (n : ℕ) (s : List ℕ) (c : ℕ) (u : List ℕ) → digit c ≡ false → T (begins (decimal n ++ (c ∷ u)) s) → front digit s ≡ decimal n
+front-decimal n s c u other t =
+    let rest = drop (length (decimal n ++ (c ∷ u))) s in
+    ap (front digit) (begins-split (decimal n ++ (c ∷ u)) s t ∙ append-assoc (decimal n) (c ∷ u) rest)
+    ∙ front-append digit (decimal n) (u ++ rest) c (digits-decimal n) other
+
+-- so a list begins with the number that its digits make, and then with no digit, where they are plain
+pub begins-decimal : (s : List ℕ) (c : ℕ) (u : List ℕ) → digit c ≡ false
+    → begins (decimal (valueOf (front digit s)) ++ (c ∷ u)) s ≡ (plain (front digit s) && begins (c ∷ u) (drop (length (front digit s)) s))
+begins-decimal s c u other =
+    let ds = front digit s in
+    ⊎-elim
+    (λ t. rw (decimal-value ds (every-front digit s) t, begins-of-append ds (c ∷ u) s, T-true (begins ds s) (begins-front digit s), T-true (plain ds) t))
+    (λ e. rw e
+    (T-false (begins (decimal (valueOf ds) ++ (c ∷ u)) s)
+    (λ t. false-T (plain ds) e (subst (λ (z : List ℕ). T (plain z)) (sym (front-decimal (valueOf ds) s c u other t)) (plain-decimal (valueOf ds))))))
+    (decide (plain ds))

@@ -1,12 +1,12 @@
 -- The claims of specs/Claims.antt, each by its laws. Assumes nothing.
 use mathlib.Core.Path.{_≡_, refl, sym, ap, ap₂, _∙_, subst}
 use mathlib.Core.Logic.{⊎-elim}
-use mathlib.Core.Bool.{Bool, true, false, _&&_}
-use mathlib.Core.List.{List, [], _∷_, _++_, map, append-nil, append-assoc}
-use Prim.Native.Nat.{ℕ, zero, suc, _+_, _-_, _≤_, _<_, zero-le, min}
+use mathlib.Core.Bool.{_&&_}
+use mathlib.Core.List.{List, [], _∷_, _++_}
+use Prim.Native.Nat.{ℕ, _+_, _≤_, _<_, zero-le, min}
 use native.Mathlib.Nat.{le-refl, le-antisymm, zero-add}
 use native.Mathlib.Omega.{arith}
-use lib.ListN.{length, getD, take, drop, take-append-drop, length-append, length-take, length-drop}
+use lib.ListN.{length, take, drop, take-append-drop, length-append, length-take}
 use lib.Seq.{take-append-seam, take-all}
 use lib.Dec.{T}
 use Rattle.octets.specs.Choice.{same}
@@ -14,18 +14,18 @@ use Rattle.octets.proofs.Choice.{le-or-lt, T-and, T-and-left, T-and-right, same
 use Rattle.sheet.specs.declared.Sheet.{Sheet}
 use Rattle.sheet.specs.declared.Refusal.{Refusal}
 use Rattle.sheet.specs.declared.Reading.{Reading}
-use Rattle.sheet.specs.Table.{numberLines, seatsLine, mostSeats, table, rowAt}
-use Rattle.sheet.specs.Line.{Entry, lineOf, textFrom, textOf}
+use Rattle.sheet.specs.Table.{numberLines, seatsLine, mostSeats, table}
+use Rattle.sheet.specs.Line.{Entry, textFrom, textOf}
 use Rattle.sheet.specs.Judge.{numbersIn, namesIn, goodNumber, goodName, good, inTurn, whole, valid}
 use Rattle.sheet.specs.Reading.{Outcome, reads, refused, outcome, lines}
-use Rattle.sheet.specs.Value.{sheetFrom, sheetOf, usersOf, numbersOf, nameOf, alone, seatEntries, entriesOf, validWith, validAlone, noRefusal, badLine, readingOf, usersFrom, readOf, usersIn}
+use Rattle.sheet.specs.Value.{sheetFrom, sheetOf, usersOf, numbersOf, seatEntries, entriesOf, validWith, validAlone, noRefusal, badLine, readingOf, usersFrom, readOf, usersIn}
 use Rattle.sheet.specs.Claims.{valueText, ReadsTo, ReadsExactly, ValidExactly, ValidAloneExactly, SomeBegins, NoneReads, NamedExactly}
-use Rattle.sheet.proofs.Judged.{numbersIn-append, length-numbersIn, length-namesIn, seatsIn, Open, whole-eq, good-numbers}
+use Rattle.sheet.proofs.Judged.{numbersIn-append, length-namesIn, seatsIn, whole-eq, good-numbers}
 use Rattle.sheet.proofs.Fresh.{fresh-name, seats-bound, completed, many}
 use Rattle.sheet.proofs.Lines.{textFrom-append}
 use Rattle.sheet.proofs.Readings.{outcome-reads, reads-outcome}
-use Rattle.sheet.proofs.Laid.{numbersIn-seats, sheetFrom-numbers, valid-length, entriesOf-laid, laid-valid, valid-entries, sheetOf-entries, usersOf-entries, valid-good}
-use Rattle.sheet.proofs.Named.{refused-past, none-begins, some-begins, lines-front}
+use Rattle.sheet.proofs.Laid.{numbersIn-seats, sheetFrom-numbers, valid-length, entriesOf-laid, laid-valid, valid-entries, sheetOf-entries, usersOf-entries}
+use Rattle.sheet.proofs.Named.{none-begins, some-begins, lines-front}
 
 -- ---- which texts read
 

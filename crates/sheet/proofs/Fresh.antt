@@ -3,18 +3,19 @@ use mathlib.Core.Path.{_≡_, refl, sym, ap, _∙_, subst}
 use mathlib.Core.Logic.{_⊎_, inl, inr, ⊎-elim}
 use mathlib.Core.Bool.{Bool, true, false, not, _&&_, _||_}
 use mathlib.Core.List.{List, [], _∷_, _++_, append-nil, append-assoc}
-use Prim.Native.Nat.{ℕ, zero, suc, _+_, _-_, _≤_, _<_, zero-le, suc-le-suc}
+use Prim.Native.Nat.{ℕ, zero, suc, _+_, _-_, _≤_, _<_, zero-le}
 use native.Mathlib.Nat.{not-suc-le-zero}
 use native.Mathlib.Omega.{arith}
-use lib.ListN.{length, getD, take, drop, length-append, List·getD-append, List·getD-eq-default, List·getD-map}
-use lib.Seq.{split-at, length-take-le}
-use lib.Dec.{T, leb, eqb, leb→le, le→leb, eqb→eq, eqb-refl, lit≤}
-use Rattle.octets.specs.Choice.{pick, same, every, some-of}
-use Rattle.octets.proofs.Choice.{T-true, true-T, T-false, false-T, decide, le-or-lt, T-and, T-and-left, T-and-right, T-or-left, T-or-right, T-or-cases, pick-cases, same-refl, same-eq}
-use Rattle.sheet.specs.Table.{Row, table, seatRow, numberLines, seatsLine, mostSeats, rowAt}
+use lib.ListN.{length, take, length-append, List·getD-append, List·getD-eq-default}
+use lib.Seq.{length-take-le}
+use lib.Dec.{T, leb, eqb, leb→le, le→leb, eqb→eq, eqb-refl}
+use Rattle.octets.specs.Choice.{pick, same, some-of}
+use Rattle.octets.proofs.Choice.{below, false-T, decide, le-or-lt, T-and, T-and-left, T-and-right, T-or-left, T-or-right, T-or-cases, pick-cases, same-refl, same-eq}
+use Rattle.sheet.specs.Table.{table, seatRow, numberLines, seatsLine, mostSeats, rowAt}
 use Rattle.sheet.specs.Line.{Entry, visible}
 use Rattle.sheet.specs.Judge.{numbersIn, namesIn, taken, goodNumber, goodName, userId, good, inTurn, whole, valid}
-use Rattle.sheet.proofs.Judged.{below, rowAt-seat, inTurn-at, inTurn-snoc, good-numbers, length-numbersIn, length-namesIn, numbersIn-append, seatsIn, Open, eq-whole}
+use Rattle.sheet.proofs.Rules.{rowAt-seat}
+use Rattle.sheet.proofs.Judged.{inTurn-at, inTurn-snoc, good-numbers, length-numbersIn, length-namesIn, numbersIn-append, seatsIn, Open, eq-whole}
 
 -- ---- a list of n leaves one of n + 1 different things out
 

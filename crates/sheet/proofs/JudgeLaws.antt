@@ -1,9 +1,9 @@
 -- Laws on one line judged: the line that was found, its number and its name make it good or bad. Assumes nothing.
-use mathlib.Core.Path.{_≡_, refl, sym, ap, _∙_, subst}
+use mathlib.Core.Path.{_≡_, refl, sym, ap, _∙_}
 use mathlib.Core.Logic.{⊎-elim}
-use mathlib.Core.Bool.{Bool, true, false, _&&_}
+use mathlib.Core.Bool.{true, false}
 use mathlib.Core.List.{List}
-use Prim.Native.Nat.{ℕ, _+_, _-_, _≤_, _<_, min}
+use Prim.Native.Nat.{ℕ, _-_, _≤_, _<_, min}
 use native.Mathlib.Omega.{arith}
 use lib.ListN.{length, take, drop}
 use lib.Dec.{T}
@@ -11,20 +11,13 @@ use borrow.Author.Tests.{le-leb, lt-leb}
 use Rattle.octets.specs.Choice.{begins}
 use Rattle.octets.proofs.Choice.{T-true, true-T, T-and-left, T-and-right, le-or-lt}
 use Rattle.sheet.specs.declared.line.Line.the-variants.{Good, Bad}
-use Rattle.sheet.specs.Table.{table, seatRow, numberLines, rowAt}
+use Rattle.sheet.specs.Table.{numberLines, rowAt}
 use Rattle.sheet.specs.Line.{lineOf, entryIn}
 use Rattle.sheet.specs.Judge.{goodNumber}
 use Rattle.sheet.specs.Inner.{cap, LineIs, newName, goodAt, JudgedIs}
-use Rattle.sheet.proofs.Judged.{rowAt-seat}
+use Rattle.sheet.proofs.Rules.{greatest-cap}
 use Rattle.sheet.proofs.Fresh.{number-bound}
-use Rattle.sheet.proofs.NumberLaws.{greatest-fits, goodNumber-high}
-
--- every number that a line may have is below the cap
-pub greatest-cap : (k : ℕ) → rowAt k .greatest < cap
-unfolding numberLines table seatRow
-greatest-cap k =
-    ⊎-elim (λ h. rw (rowAt-seat k h) (omega arith)) (λ (h : k < 11). let g : rowAt k .greatest ≤ 4294967295 = greatest-fits k (omega arith) in omega arith)
-    (le-or-lt numberLines k)
+use Rattle.sheet.proofs.NumberLaws.{goodNumber-high}
 
 -- a number is good exactly if, as far as the cap, it is
 pub goodNumber-cap : (ns : List ℕ) (n : ℕ) → goodNumber ns (min n cap) ≡ goodNumber ns n

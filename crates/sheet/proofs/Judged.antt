@@ -1,40 +1,19 @@
 -- Laws on which entries may stand in a sheet. Assumes nothing.
-use mathlib.Core.Path.{_≡_, refl, sym, ap, _∙_, subst}
+use mathlib.Core.Path.{_≡_, sym, subst}
 use mathlib.Core.Logic.{_⊎_, inl, inr, ⊎-elim}
 use mathlib.Core.Bool.{Bool, true, false, _&&_, and-assoc}
 use mathlib.Core.List.{List, [], _∷_, _++_, map, append-nil, append-assoc, map-append}
-use Prim.Native.Nat.{ℕ, zero, suc, _+_, _≤_, _<_}
-use native.Mathlib.Nat.{not-suc-le-zero}
+use Prim.Native.Nat.{ℕ, suc, _+_, _≤_, _<_}
 use native.Mathlib.Omega.{arith}
-use native.Mathlib.Numerals.{add-one}
 use lib.ListN.{length, getD, take, drop, take-append-drop, length-append, length-map, List·getD-append, List·getD-eq-default}
 use lib.Seq.{drop-cons}
-use lib.Dec.{T, eqb, eqb→eq}
-use borrow.Author.Tests.{eqb-true, eqb-false, eq-eqb, ne-eqb}
+use lib.Dec.{T, eqb→eq}
+use borrow.Author.Tests.{eqb-false, eq-eqb, ne-eqb}
 use Rattle.octets.specs.Choice.{pick, same, every}
-use Rattle.octets.proofs.Choice.{T-true, true-T, T-and, T-and-left, T-and-right, same-eq, le-or-lt}
-use Rattle.sheet.specs.Table.{Row, table, seatRow, numberLines, seatsLine, rowAt}
+use Rattle.octets.proofs.Choice.{true-T, T-and, T-and-left, T-and-right, le-or-lt}
+use Rattle.sheet.specs.Table.{Row, table, numberLines, seatsLine, rowAt}
 use Rattle.sheet.specs.Line.{Entry, visible}
 use Rattle.sheet.specs.Judge.{numbersIn, namesIn, goodNumber, goodName, userId, good, inTurn, whole}
-
--- ---- the table's rows
-
--- a test at every number below n
-abbrev pub allBelow : ℕ → (ℕ → Bool) → Bool
-allBelow zero p = true
-allBelow (suc n) p = p n && allBelow n p
-
-pub below : (n : ℕ) (p : ℕ → Bool) → T (allBelow n p) → (k : ℕ) → k < n → T (p k)
-below zero p t k l = absurd (not-suc-le-zero l)
-below (suc n) p t k l =
-    ⊎-elim (λ h. below n p (T-and-right (p n) (allBelow n p) t) k h)
-    (λ h. subst (λ (i : ℕ). T (p i)) (omega arith) (T-and-left (p n) (allBelow n p) t))
-    (le-or-lt (suc k) n)
-
--- a line behind those with a number alone is a seat's
-pub rowAt-seat : (k : ℕ) → numberLines ≤ k → rowAt k ≡ seatRow
-unfolding rowAt numberLines
-rowAt-seat k h = List·getD-eq-default table seatRow h
 
 -- ---- inTurn: each good behind those before it
 

@@ -1,51 +1,36 @@
 -- Laws on values: a sheet's entries laid out stand for the same entries again. Assumes nothing.
-use mathlib.Core.Path.{_≡_, refl, sym, ap, ap₂, _∙_, subst}
-use mathlib.Core.Logic.{⊎-elim}
-use mathlib.Core.Bool.{Bool, true, false, not, _&&_}
-use mathlib.Core.List.{List, [], _∷_, _++_, map, append-nil, append-assoc, map-append}
+use mathlib.Core.Path.{_≡_, refl, sym, ap, ap₂, _∙_}
+use mathlib.Core.Bool.{not, _&&_}
+use mathlib.Core.List.{List, [], _∷_, _++_, map, append-nil}
 use Prim.Native.Nat.{ℕ, zero, suc, _+_, _-_, _≤_, _<_}
 use native.Mathlib.Omega.{arith}
-use lib.ListN.{length, getD, take, drop, replicate, take-append-drop, length-append, length-take, length-drop}
-use lib.Seq.{drop-cons, take-nil, length-take-le}
-use lib.Dec.{T, T-not, leb, eqb, leb→le}
+use lib.ListN.{length, take, drop, replicate, take-append-drop, length-append, length-drop}
+use lib.Seq.{take-nil, length-take-le}
+use lib.Dec.{T, leb, eqb, leb→le}
 use borrow.Author.Tests.{ne-eqb}
-use Rattle.octets.specs.Choice.{pick, same, every, front}
+use Rattle.octets.specs.Choice.{same, every, front}
 use Rattle.octets.specs.Buffer.{padded}
-use Rattle.octets.proofs.Choice.{T-true, T-false, T-and, T-and-left, T-and-right, le-or-lt, same-refl, same-eq, front-all, front-append}
+use Rattle.octets.proofs.Lists.{listed-take, map-drop}
+use Rattle.octets.proofs.Choice.{every-weaker, T-and, T-and-left, T-and-right, same-refl, same-eq, front-all, front-append}
 use Rattle.octets.proofs.Buffer.{take-padded}
 use Rattle.sheet.specs.declared.Sheet.{Sheet}
-use Rattle.sheet.specs.Table.{table, seatRow, numberLines, seatsLine, mostSeats, rowAt}
+use Rattle.sheet.specs.Table.{table, seatRow, numberLines, seatsLine, mostSeats}
 use Rattle.sheet.specs.Line.{Entry, longestName, visible}
 use Rattle.sheet.specs.Judge.{numbersIn, namesIn, good, inTurn, whole, valid}
 use Rattle.sheet.specs.Value.{sheetFrom, sheetOf, rowOf, usersOf, numbersOf, nameOf, alone, seatEntries, entriesOf, sameRows, validWith}
-use Rattle.sheet.proofs.Judged.{below, rowAt-seat, shaped, good-shaped, inTurn-drop, length-numbersIn, seatsIn, whole-eq}
-use Rattle.sheet.proofs.Lines.{every-weaker}
+use Rattle.sheet.proofs.Rules.{row-unnamed, rowAt-seat}
+use Rattle.sheet.proofs.Judged.{good-shaped, inTurn-drop, length-numbersIn, seatsIn, whole-eq}
 
 -- ---- the lines with a number alone
-
--- the n numbers from place i on, one by one
-abbrev numbersFrom : ℕ → ℕ → List ℕ → List ℕ
-numbersFrom i zero ns = []
-numbersFrom i (suc n) ns = getD ns i 0 ∷ numbersFrom (suc i) n ns
-
-numbersFrom-take : (n i : ℕ) (ns : List ℕ) → i + n ≤ length ns → numbersFrom i n ns ≡ take n (drop i ns)
-numbersFrom-take zero i ns h = refl
-numbersFrom-take (suc n) i ns h =
-    rw (drop-cons ns i 0 (omega arith)) (ap (λ (l : List ℕ). getD ns i 0 ∷ l) (numbersFrom-take n (suc i) ns (omega arith)))
 
 -- the numbers of a sheet that is laid out
 pub numbersOf-sheetFrom : (ns : List ℕ) → numberLines ≤ length ns → numbersOf (sheetFrom ns) ≡ take numberLines ns
 unfolding numbersOf sheetFrom numberLines table
-numbersOf-sheetFrom ns h = numbersFrom-take 11 0 ns h
-
-pub unnamed : (k : ℕ) → k < numberLines → T (not (rowAt k .named))
-unfolding rowAt table seatRow numberLines
-unnamed k h = below 11 (λ (i : ℕ). not (rowAt i .named)) tt k h
+numbersOf-sheetFrom ns h = listed-take 11 0 ns h
 
 nameless : (b : List Entry) (e : Entry) → T (good b e) → length b < numberLines → alone (e .number) ≡ e
 nameless b e g h =
-    let n : rowAt (length b) .named ≡ false = T-false (rowAt (length b) .named) (T-not (rowAt (length b) .named) (unnamed (length b) h)) in
-    let s : T (same (e .name) []) = rw n at (good-shaped b e g) in
+    let s : T (same (e .name) []) = rw (row-unnamed (length b) h) at (good-shaped b e g) in
     let m : e .name ≡ [] = same-eq (e .name) [] s in
     λ i. record { number = e .number; name = sym m i }
 
@@ -92,11 +77,6 @@ seatEntries-laid (e ∷ es) b us t h =
     (seatEntries-laid es (b ++ (e ∷ [])) us (T-and-right (good b e) (inTurn good (b ++ (e ∷ [])) es) t) (omega arith))
 
 -- ---- the whole sheet
-
-pub map-drop : {A B : Type 0} (f : A → B) (n : ℕ) (xs : List A) → drop n (map f xs) ≡ map f (drop n xs)
-map-drop f zero xs = refl
-map-drop f (suc n) [] = refl
-map-drop f (suc n) (x ∷ xs) = map-drop f n xs
 
 -- a valid sheet has its lines with a number alone, and as many seats as it says
 pub valid-good : (es : List Entry) → T (valid es) → T (inTurn good [] es)

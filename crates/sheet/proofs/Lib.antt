@@ -1,3 +1,4 @@
+pub mod Rules
 pub mod Judged
 pub mod Fresh
 pub mod Lines

@@ -1,23 +1,23 @@
 -- Laws on the text of a line: a good entry's line is one line, and the entry is read off it again. Assumes nothing.
 use mathlib.Core.Path.{_≡_, refl, sym, ap, ap₂, _∙_}
-use mathlib.Core.Logic.{⊎-elim}
-use mathlib.Core.Bool.{Bool, true, false, not, _&&_}
+use mathlib.Core.Bool.{Bool, true, false}
 use mathlib.Core.List.{List, [], _∷_, _++_, append-nil, append-assoc}
-use Prim.Native.Nat.{ℕ, zero, suc, _+_, _≤_, _<_}
+use Prim.Native.Nat.{ℕ, suc, _+_, _≤_, _<_}
 use native.Mathlib.Nat.{add-zero, zero-add, suc-add, add-suc}
 use native.Mathlib.Omega.{arith}
-use lib.ListN.{length, getD, take, drop, length-append}
+use lib.ListN.{length, drop, length-append}
 use lib.Seq.{drop-append-seam, drop-append-add, drop-drop}
 use lib.Dec.{T, T-not, leb, eqb, leb→le}
 use borrow.Author.Tests.{ne-eqb}
-use Rattle.octets.specs.Choice.{pick, same, every, front, begins}
+use Rattle.octets.specs.Choice.{pick, same, every, front}
 use Rattle.octets.specs.Text.{decimal, valueOf, digit}
-use Rattle.octets.proofs.Choice.{le-or-lt, T-true, T-false, T-and, T-and-left, T-and-right, same-eq, front-append, begins-append, begins-split, every-append, every-getD}
+use Rattle.octets.proofs.Choice.{every-weaker, T-false, T-and, T-and-left, T-and-right, same-eq, front-append, every-append}
 use Rattle.octets.proofs.Text.{value-decimal, digits-decimal, digit-low, length-decimal-pos}
-use Rattle.sheet.specs.Table.{Row, table, seatRow, numberLines, rowAt}
+use Rattle.sheet.specs.Table.{Row, rowAt}
 use Rattle.sheet.specs.Line.{Entry, lf, comma, visible, tailOf, lineOf, digitsAfter, nameAfter, entryIn, textFrom, textOf}
 use Rattle.sheet.specs.Reading.{firstLine, lines}
-use Rattle.sheet.proofs.Judged.{shaped, rowAt-seat, below}
+use Rattle.sheet.proofs.Rules.{plainOctet, key-plain}
+use Rattle.sheet.proofs.Judged.{shaped}
 
 -- ---- the entry is read off its line
 
@@ -70,17 +70,8 @@ entry-line r e u t =
 
 -- ---- a line's text is one line
 
--- an octet that ends no line
-abbrev pub plainOctet : ℕ → Bool
-plainOctet c = not (eqb c lf)
-
 above-lf : (c : ℕ) → lf < c → T (plainOctet c)
 above-lf c h = rw (ne-eqb c lf (λ q. omega arith)) tt
-
-pub every-weaker : (p q : ℕ → Bool) → ((c : ℕ) → T (p c) → T (q c)) → (cs : List ℕ) → T (every p cs) → T (every q cs)
-every-weaker p q h [] t = tt
-every-weaker p q h (c ∷ cs) t =
-    T-and (q c) (every q cs) (h c (T-and-left (p c) (every p cs) t)) (every-weaker p q h cs (T-and-right (p c) (every p cs) t))
 
 digits-plain : (cs : List ℕ) → T (every digit cs) → T (every plainOctet cs)
 digits-plain cs t = every-weaker digit plainOctet (λ c d. above-lf c (let l : 48 ≤ c = digit-low c d in omega arith)) cs t
@@ -88,12 +79,6 @@ digits-plain cs t = every-weaker digit plainOctet (λ c d. above-lf c (let l : 4
 visible-plain : (cs : List ℕ) → T (every visible cs) → T (every plainOctet cs)
 visible-plain cs t =
     every-weaker visible plainOctet (λ c d. above-lf c (let l : 33 ≤ c = leb→le 33 c (T-and-left (leb 33 c) (leb c 126) d) in omega arith)) cs t
-
--- no key has an LF
-pub key-plain : (k : ℕ) → T (every plainOctet (rowAt k .key))
-unfolding rowAt table seatRow numberLines
-key-plain k =
-    ⊎-elim (λ h. rw (rowAt-seat k h) tt) (λ h. below 11 (λ (i : ℕ). every plainOctet (rowAt i .key)) tt k h) (le-or-lt numberLines k)
 
 -- what stands before a line's LF
 abbrev body : Row → Entry → List ℕ

@@ -2,7 +2,7 @@
 -- Assumes nothing.
 use mathlib.Core.Path.{_≡_, refl, sym, ap, _∙_, subst}
 use mathlib.Core.Logic.{⊎-elim}
-use mathlib.Core.Bool.{Bool, true, false, _&&_}
+use mathlib.Core.Bool.{false}
 use mathlib.Core.List.{List, [], _∷_, _++_, append-nil, append-assoc}
 use Prim.Native.Nat.{ℕ, zero, suc, _+_, _≤_, _<_}
 use native.Mathlib.Omega.{arith}
@@ -12,7 +12,7 @@ use Rattle.octets.proofs.Choice.{T-true, decide, T-and-left, T-and-right}
 use Rattle.sheet.specs.Table.{rowAt}
 use Rattle.sheet.specs.Line.{Entry, lineOf, textFrom}
 use Rattle.sheet.specs.Judge.{numbersIn, good, inTurn, whole}
-use Rattle.sheet.specs.Reading.{reads, refused, goodLine, behind, readBy, firstLine, lines}
+use Rattle.sheet.specs.Reading.{refused, goodLine, behind, readBy, firstLine, lines}
 use Rattle.sheet.proofs.Judged.{inTurn-snoc, good-shaped, numbersIn-append, Open, open-more, whole-front}
 use Rattle.sheet.proofs.Lines.{firstLine-split, lines-line, line-pos}
 use Rattle.sheet.proofs.Readings.{entryAt, goodLine-good, goodLine-split, readBy-whole, readBy-none, readBy-bad, readBy-good, length-snoc, read-line}

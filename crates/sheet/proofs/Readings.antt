@@ -1,21 +1,21 @@
 -- Laws on the reading: a text reads to entries exactly if they are a sheet's and the text begins with theirs. Assumes nothing.
-use mathlib.Core.Path.{_≡_, refl, sym, ap, _∙_, subst}
-use mathlib.Core.Logic.{_⊎_, inl, inr, ⊎-elim}
-use mathlib.Core.Bool.{Bool, true, false, _&&_}
+use mathlib.Core.Path.{_≡_, refl, sym, ap, _∙_}
+use mathlib.Core.Logic.{⊎-elim}
+use mathlib.Core.Bool.{true, false}
 use mathlib.Core.List.{List, [], _∷_, _++_, append-nil, append-assoc}
 use Prim.Native.Nat.{ℕ, zero, suc, _+_, _≤_, _<_}
 use native.Mathlib.Nat.{le-refl}
 use native.Mathlib.Numerals.{add-one}
 use native.Mathlib.Omega.{arith}
-use lib.ListN.{length, drop, length-append}
+use lib.ListN.{length, length-append}
 use lib.Seq.{drop-append-seam}
 use lib.Dec.{T}
 use Rattle.octets.specs.Choice.{begins}
-use Rattle.octets.proofs.Choice.{T-true, true-T, T-false, false-T, decide, T-and, T-and-left, T-and-right, begins-append, begins-split}
+use Rattle.octets.proofs.Choice.{T-true, decide, T-and, T-and-left, T-and-right, begins-append, begins-split}
 use Rattle.sheet.specs.Table.{rowAt}
 use Rattle.sheet.specs.Line.{Entry, lineOf, entryIn, textFrom, textOf}
 use Rattle.sheet.specs.Judge.{numbersIn, good, inTurn, whole, valid}
-use Rattle.sheet.specs.Reading.{Outcome, reads, refused, goodLine, behind, readBy, outcome}
+use Rattle.sheet.specs.Reading.{reads, refused, goodLine, behind, readBy, outcome}
 use Rattle.sheet.proofs.Judged.{good-shaped, numbersIn-append, whole-front}
 use Rattle.sheet.proofs.Lines.{entry-line, line-pos}
 

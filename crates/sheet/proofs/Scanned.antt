@@ -1,20 +1,20 @@
 -- Laws on the reader's one pass: what its arrays hold after some good lines, and what one line more does. Assumes nothing.
 use mathlib.Core.Path.{_≡_, refl, sym, ap, ap₂, _∙_, subst}
 use mathlib.Core.Logic.{_⊎_, ⊎-elim}
-use mathlib.Core.Bool.{Bool, true, false, not, _&&_, _||_, or-assoc}
+use mathlib.Core.Bool.{Bool, true, false, not, _&&_, _||_}
 use mathlib.Core.Option.{Option, none, some, Option·map}
-use mathlib.Core.List.{List, [], _∷_, _++_, map, append-nil, append-assoc, map-append}
+use mathlib.Core.List.{List, [], _∷_, _++_, map, map-append}
 use Prim.Native.Nat.{ℕ, zero, suc, _+_, _-_, _≤_, _<_, zero-le}
-use native.Mathlib.Nat.{le-refl, add-zero, sub-zero, zero-sub, suc-sub-suc}
-use native.Mathlib.Numerals.{add-one}
+use native.Mathlib.Nat.{le-refl, add-zero}
 use native.Mathlib.Omega.{arith}
-use lib.ListN.{length, getD, set, take, drop, replicate, take-append-drop, length-append, length-map, length-take, length-drop, getD-replicate, List·getD-append, List·getD-eq-default, drop-of-length-le}
+use lib.ListN.{length, getD, set, take, drop, replicate, take-append-drop, length-append, length-map, length-drop, getD-replicate, List·getD-append, List·getD-eq-default, drop-of-length-le}
 use lib.Seq.{drop-append-le, drop-drop, getD-at, getD-append-add, length-take-le}
-use lib.Dec.{T, T-not, leb, eqb, leb→le}
+use lib.Dec.{T, leb, leb→le}
 use borrow.Author.Tests.{le-leb, lt-leb}
 use Rattle.octets.specs.Choice.{pick, same, begins, every, some-of, first-place}
 use Rattle.octets.specs.Buffer.{padded, over}
-use Rattle.octets.proofs.Choice.{T-true, T-false, true-T, false-T, decide, le-or-lt, T-and, T-and-left, T-and-right}
+use Rattle.octets.proofs.Lists.{map-drop, drop-replicate}
+use Rattle.octets.proofs.Choice.{some-of-append, T-true, T-false, le-or-lt, T-and-left, T-and-right}
 use Rattle.octets.proofs.Buffer.{take-padded, set-padded, getD-padded}
 use Rattle.sheet.specs.Table.{table, seatRow, numberLines, seatsLine, mostSeats, rowAt}
 use Rattle.sheet.specs.Line.{Entry, longestName, visible, lineOf, entryIn, textFrom, textOf}
@@ -24,11 +24,12 @@ use Rattle.sheet.specs.Value.{sheetFrom, sheetOf, rowOf, usersOf, nameOf
 use Rattle.sheet.specs.Find.{seatOfUser}
 use Rattle.sheet.specs.Inner.{isNone, newName, goodAt, JudgedIs, layoutOf}
 use Rattle.sheet.specs.declared.line.Line.the-variants.{Good}
-use Rattle.sheet.proofs.Judged.{rowAt-seat, good-numbers, whole-eq, eq-whole, open-more, inTurn-drop, inTurn-snoc, length-numbersIn, length-namesIn, numbersIn-append, seatsIn, Open}
+use Rattle.sheet.proofs.Rules.{rowAt-seat, row-unnamed}
+use Rattle.sheet.proofs.Judged.{good-numbers, whole-eq, eq-whole, open-more, inTurn-drop, inTurn-snoc, length-numbersIn, length-namesIn, numbersIn-append, seatsIn, Open}
 use Rattle.sheet.proofs.Fresh.{seats-bound}
-use Rattle.sheet.proofs.Laid.{map-drop, alone-take, nameOf-rowOf, seat-name, unnamed}
+use Rattle.sheet.proofs.Laid.{alone-take, nameOf-rowOf, seat-name}
 use Rattle.sheet.proofs.Lines.{length-textOf-snoc}
-use Rattle.sheet.proofs.Readings.{entryAt, goodLine-good, readBy-whole, readBy-bad, readBy-good, length-behind, length-snoc}
+use Rattle.sheet.proofs.Readings.{entryAt, goodLine-good, readBy-whole, readBy-bad, readBy-good, length-behind}
 
 -- ---- a name is new among the rows exactly if it is new among the names
 
@@ -40,10 +41,6 @@ isNone-first p (x ∷ xs) = by-test (p x) (first-place p xs) (some-of p xs) (isN
     by-test true o t e = refl
     by-test false none t e = e
     by-test false (some n) t e = e
-
-pub some-of-append : {A : Type 0} (p : A → Bool) (xs ys : List A) → some-of p (xs ++ ys) ≡ (some-of p xs || some-of p ys)
-some-of-append p [] ys = refl
-some-of-append p (x ∷ xs) ys = rw (some-of-append p xs ys) (sym (or-assoc (p x) (some-of p xs) (some-of p ys)))
 
 -- the rows of seats hold their names
 some-of-rows : (xs b : List Entry) (name : List ℕ) → T (inTurn good b xs) → numberLines ≤ length b
@@ -104,8 +101,7 @@ module _ (b : List Entry) (t : T (inTurn good [] b)) (h : numberLines ≤ length
 no-name : (b : List Entry) (s : List ℕ) → length b < numberLines → goodName (namesIn b) (entryAt b s .name) ≡ true
 unfolding goodName entryIn
 no-name b s h =
-    let n : rowAt (length b) .named ≡ false = T-false (rowAt (length b) .named) (T-not (rowAt (length b) .named) (unnamed (length b) h)) in
-    rw (length-namesIn b, n)
+    rw (length-namesIn b, row-unnamed (length b) h)
 
 pub seat-named : (b : List Entry) (name : List ℕ) → numberLines ≤ length b
     → goodName (namesIn b) name ≡ (userId name && not (some-of (λ (other : List ℕ). same other name) (namesIn b)))
@@ -216,11 +212,6 @@ users-kept b e h =
     ap (λ (names : List (List ℕ)). padded mostSeats (rowOf []) (map rowOf names))
     (drop-of-length-le (namesIn (b ++ (e ∷ []))) {i = numberLines} (omega arith)
     ∙ sym (drop-of-length-le (namesIn b) {i = numberLines} (let m = length-namesIn b in omega arith)))
-
-drop-replicate : {A : Type 0} (n m : ℕ) (a : A) → drop n (replicate m a) ≡ replicate (m - n) a
-drop-replicate zero m a = ap (λ (k : ℕ). replicate k a) (sym (sub-zero m))
-drop-replicate (suc n) zero a = ap (λ (k : ℕ). replicate k a) (sym (zero-sub (suc n)))
-drop-replicate (suc n) (suc m) a = drop-replicate n m a ∙ ap (λ (k : ℕ). replicate k a) (sym (suc-sub-suc m n))
 
 -- a name put into a row of zeros
 pub over-zeros : (name : List ℕ) → over name (rowOf []) ≡ rowOf name

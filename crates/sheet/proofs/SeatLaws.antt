@@ -7,14 +7,14 @@ use mathlib.Core.Option.{none, some}
 use Prim.Native.Nat.{ℕ, _+_, _≤_, _<_, min}
 use native.Mathlib.Numerals.{add-one}
 use native.Mathlib.Omega.{arith}
-use lib.ListN.{length, getD, set, take, drop, length-take, drop-of-length-le, List·getD-append}
-use lib.Seq.{take-suc, take-append-seam, length-take-le, drop-cons, getD-take}
-use lib.Dec.{T, eqb}
+use lib.ListN.{length, getD, take, drop, length-take, List·getD-append}
+use lib.Seq.{take-append-seam, drop-cons, getD-take}
+use lib.Dec.{eqb}
 use borrow.Author.Tests.{eq-eqb, ne-eqb, le-leb, lt-leb}
 use Rattle.octets.specs.Choice.{same, front, first-place}
-use Rattle.octets.specs.Buffer.{over, zerosFrom, padded}
-use Rattle.octets.proofs.Choice.{T-true, T-false, same-eq, eq-same, front-split, length-front-le, front-drop-true, front-drop-false, front-drop-end, first-place-none, first-place-some}
-use Rattle.octets.proofs.Buffer.{set-over, zerosFrom-padded, padded-zerosFrom}
+use Rattle.octets.specs.Buffer.{zerosFrom}
+use Rattle.octets.proofs.Choice.{front-split, length-front-le, front-drop-true, front-drop-false, front-drop-end, first-place-none, first-place-some}
+use Rattle.octets.proofs.Buffer.{same-padded}
 use Rattle.sheet.specs.Line.{longestName}
 use Rattle.sheet.specs.Judge.{userId}
 use Rattle.sheet.specs.Value.{rowOf, nameOf}
@@ -61,29 +61,12 @@ take-nameOf row =
     let name : List ℕ = front nonzero row in
     ap (take (length name)) (front-split nonzero row) ∙ take-append-seam name (drop (length name) row)
 
--- ---- a name put into a row, octet by octet
-
--- one octet more
-pub set-over-take : (name row : List ℕ) (i : ℕ) → i < length name → length name ≤ length row
-    → set (over (take i name) row) i (getD name i 0) ≡ over (take (i + 1) name) row
-set-over-take name row i h l =
-    let e : length (take i name) ≡ i = length-take-le i name (omega arith) in
-    rw (add-one, take-suc name i 0 h) (rw e at (set-over (take i name) row (getD name i 0) (rw e (omega arith))))
-
 -- ---- a row's name and another, place by place
-
--- lists of two lengths are not the same
-pub same-length : (xs ys : List ℕ) → (length xs ≡ length ys → ⊥) → same xs ys ≡ false
-same-length xs ys h = T-false (same xs ys) (λ t. h (ap length (same-eq xs ys t)))
 
 -- place i, then the places behind it
 pub same-nameOf-step : (row name : List ℕ) (i : ℕ) → i < length (nameOf row) → i < length name
     → same (drop i (nameOf row)) (drop i name) ≡ (eqb (getD row i 0) (getD name i 0) && same (drop (i + 1) (nameOf row)) (drop (i + 1) name))
 same-nameOf-step row name i h l = rw (add-one, drop-cons (nameOf row) i 0 h, drop-cons name i 0 l, getD-nameOf row i h)
-
--- no place is left
-pub same-end : (xs ys : List ℕ) (i : ℕ) → length xs ≤ i → length ys ≤ i → same (drop i xs) (drop i ys) ≡ true
-same-end xs ys i h l = rw (drop-of-length-le xs h, drop-of-length-le ys l)
 
 -- ---- the first of so many seats that passes a test, where the seats before one fail
 
@@ -125,19 +108,6 @@ module _ (seats : ℕ) (users : List (List ℕ)) (name : List ℕ) where
   newName-free t e = rw (t, e)
 
 -- ---- a row as it has to be
-
--- two tests that hold together are one
-test-eq : (a b : Bool) → (T a → T b) → (T b → T a) → a ≡ b
-test-eq true b f g = sym (T-true b (f tt))
-test-eq false b f g = sym (T-false b g)
-
--- a list is its front filled up with zeros exactly if zeros stand behind the front
-pub same-padded : (s : List ℕ) (at : ℕ) → at ≤ length s → same s (padded (length s) 0 (take at s)) ≡ zerosFrom s at
-same-padded s at h =
-    let p = padded (length s) 0 (take at s) in
-    test-eq (same s p) (zerosFrom s at)
-    (λ t. rw (← same-eq s p t, length-take-le at s h) at (zerosFrom-padded (length s) (take at s)))
-    (λ z. eq-same s p (sym (padded-zerosFrom s at z h)))
 
 -- a row is its name at fixed width exactly if zeros stand behind the name
 pub same-rowOf : (row : List ℕ) → length row ≡ longestName → same row (rowOf (nameOf row)) ≡ zerosFrom row (length (nameOf row))

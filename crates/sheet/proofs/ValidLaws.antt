@@ -9,11 +9,12 @@ use native.Mathlib.Numerals.{add-one}
 use native.Mathlib.Omega.{arith}
 use lib.ListN.{length, getD, take, drop, length-append, length-take, length-map, drop-of-length-le, List·getD-append, List·getD-map, List·getD-eq-default}
 use lib.Seq.{length-take-le, drop-cons, take-suc, take-all, take-take, getD-take, take-append-add, drop-append-add, getD-append-add, ext-getD}
-use lib.Dec.{T, T-not, eqb, eqb→eq}
+use lib.Dec.{T, eqb, eqb→eq}
 use Rattle.octets.specs.Choice.{same, some-of}
 use Rattle.octets.specs.Buffer.{zerosFrom, padded}
-use Rattle.octets.proofs.Choice.{T-true, true-T, T-false, false-T, T-and, T-and-left, T-and-right, same-eq, eq-same, le-or-lt}
-use Rattle.octets.proofs.Buffer.{zerosFrom-end, zerosFrom-step, getD-padded, length-padded}
+use Rattle.octets.proofs.Choice.{some-of-map, T-true, true-T, T-false, false-T, T-and, T-and-left, T-and-right, same-eq, eq-same, le-or-lt, some-of-append}
+use Rattle.octets.proofs.Buffer.{zerosFrom-end, zerosFrom-step, getD-padded, length-padded, same-padded}
+use Rattle.octets.proofs.Lists.{map-take, getD-default}
 use Rattle.sheet.specs.declared.Sheet.{Sheet}
 use Rattle.sheet.specs.Table.{table, numberLines, seatsLine, mostSeats, rowAt}
 use Rattle.sheet.specs.Line.{Entry}
@@ -21,12 +22,12 @@ use Rattle.sheet.specs.Judge.{numbersIn, namesIn, goodNumber, goodName, 
 use Rattle.sheet.specs.Value.{sheetFrom, sheetOf, rowOf, usersOf, numbersOf, nameOf, alone, seatEntries, entriesOf, validWith, validAlone}
 use Rattle.sheet.specs.Find.{seatOfUser}
 use Rattle.sheet.specs.Inner.{newName, goodRow}
+use Rattle.sheet.proofs.Rules.{row-unnamed}
 use Rattle.sheet.proofs.Judged.{eq-whole, length-numbersIn, length-namesIn, inTurn-at, good-name}
 use Rattle.sheet.proofs.Fresh.{seats-bound}
-use Rattle.sheet.proofs.NumberLaws.{getD-default}
-use Rattle.sheet.proofs.SeatLaws.{take-nameOf, same-padded, goodRow-unused, goodRow-used}
-use Rattle.sheet.proofs.Laid.{numbersIn-seats, unnamed, nameOf-rowOf, valid-good, valid-entries, usersOf-entries, sheetFrom-numbers, laid-valid}
-use Rattle.sheet.proofs.Scanned.{isNone-first, some-of-append, some-of-alone, seat-named}
+use Rattle.sheet.proofs.SeatLaws.{take-nameOf, goodRow-unused, goodRow-used}
+use Rattle.sheet.proofs.Laid.{numbersIn-seats, nameOf-rowOf, valid-good, valid-entries, usersOf-entries, sheetFrom-numbers, laid-valid}
+use Rattle.sheet.proofs.Scanned.{isNone-first, some-of-alone, seat-named}
 use Rattle.sheet.proofs.Claims.{valid-alone-exactly}
 
 -- ---- a struct's numbers, line by line
@@ -93,17 +94,6 @@ pub many-seats : (s : Sheet) → mostSeats < s .seats → validAlone s ≡ false
 many-seats s h = T-false (validAlone s) (λ t. let b : s .seats ≤ mostSeats = few-seats s t in omega arith)
 
 -- ---- a name is new among the rows exactly if it is new among the names in them
-
--- the first of those that are mapped
-map-take : {A B : Type 0} (f : A → B) (n : ℕ) (xs : List A) → map f (take n xs) ≡ take n (map f xs)
-map-take f zero xs = refl
-map-take f (suc n) [] = refl
-map-take f (suc n) (x ∷ xs) = ap (λ (ys : List _). f x ∷ ys) (map-take f n xs)
-
--- a test of what each is mapped to
-some-of-map : {A B : Type 0} (p : B → Bool) (f : A → B) (xs : List A) → some-of p (map f xs) ≡ some-of (λ (x : A). p (f x)) xs
-some-of-map p f [] = refl
-some-of-map p f (x ∷ xs) = rw (some-of-map p f xs)
 
 -- the lines with a number alone before them have no name
 new-among : (ns : List ℕ) (i : ℕ) (users : List (List ℕ)) (name : List ℕ)
@@ -183,7 +173,7 @@ names-seats (x ∷ xs) (u ∷ us) = ap (λ (l : List (List ℕ)). nameOf u ∷ l
 no-name : (b : List Entry) → length b < numberLines → goodName (namesIn b) [] ≡ true
 unfolding goodName
 no-name b h =
-    let n : rowAt (length b) .named ≡ false = T-false (rowAt (length b) .named) (T-not (rowAt (length b) .named) (unnamed (length b) h)) in
+    let n : rowAt (length b) .named ≡ false = row-unnamed (length b) h in
     rw (length-namesIn b, n)
 
 -- each good behind those before it, so all in turn

@@ -2,22 +2,38 @@
 -- believe them: each is only a step of a proof. Assumes nothing.
 use mathlib.Core.Path.{_≡_}
 use Prim.Native.Nat.{ℕ, _+_, _-_, _≤_, _<_, min}
-use mathlib.Core.Bool.{Bool, true, false, not, _&&_}
-use mathlib.Core.List.{List, [], _∷_, _++_}
+use mathlib.Core.Bool.{Bool, true, false, _&&_}
+use mathlib.Core.List.{List, []}
 use mathlib.Core.Option.{Option, none, some}
 use lib.ListN.{length, getD, take, drop}
 use lib.Dec.{T, leb, eqb}
 use Rattle.octets.specs.Choice.{pick, same, begins, front}
+use Rattle.octets.specs.Text.{ascii}
 use Rattle.sheet.specs.declared.Sheet.{Sheet}
+use Rattle.sheet.specs.declared.table.Rule.{Rule}
 use Rattle.sheet.specs.declared.line.Line.{Line}
 use Rattle.sheet.specs.declared.line.Line.the-variants.{Good, Bad}
 use Rattle.sheet.specs.declared.line.Rest.{Rest}
 use Rattle.sheet.specs.declared.line.Rest.the-variants.{Good as GoodTail, Bad as BadTail}
 use Rattle.sheet.specs.Table.{Row, rowAt, numberLines}
-use Rattle.sheet.specs.Line.{Entry, visible, tailOf, lineOf, entryIn}
+use Rattle.sheet.specs.Line.{visible, tailOf, lineOf, entryIn}
 use Rattle.sheet.specs.Judge.{goodNumber, userId}
 use Rattle.sheet.specs.Value.{rowOf, nameOf}
 use Rattle.sheet.specs.Find.{seatOfUser}
+
+-- the keys as the code holds them, one behind the other
+unfoldable pub keys : List ℕ
+keys = ascii "server=limit=request=response=endrequest=endresponse=txend=txendresponse=ack=resultid=seats=seat="
+
+-- a rule of the code is the row of line k
+pub record RuleOf (k : ℕ) (r : Rule) : Type 0 where
+  pub least : r .least ≡ rowAt k .least
+  pub greatest : r .greatest ≡ rowAt k .greatest
+  pub family : r .family ≡ rowAt k .family
+  pub named : r .named ≡ rowAt k .named
+  pub ordered : r .from ≤ r .end
+  pub within : r .end ≤ length keys
+  pub key : take (r .end - r .from) (drop (r .from) keys) ≡ rowAt k .key
 
 -- numbers are told apart as far as this
 abbrev pub cap : ℕ

@@ -1,11 +1,11 @@
 -- Which entries may stand in a call sheet, each judged against those before it (document 01, "Call sheet"). Assumes nothing.
-use Prim.Native.Nat.{ℕ, zero, suc, _+_}
+use Prim.Native.Nat.{ℕ, suc, _+_}
 use mathlib.Core.Bool.{Bool, true, false, not, _&&_, _||_}
 use mathlib.Core.List.{List, [], _∷_, _++_, map}
 use lib.ListN.{length, getD}
 use lib.Dec.{leb, eqb}
 use Rattle.octets.specs.Choice.{pick, same, every, some-of}
-use Rattle.sheet.specs.Table.{Row, rowAt, numberLines, seatsLine}
+use Rattle.sheet.specs.Table.{rowAt, numberLines, seatsLine}
 use Rattle.sheet.specs.Line.{Entry, visible, longestName}
 
 abbrev pub numbersIn : List Entry → List ℕ

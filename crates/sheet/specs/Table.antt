@@ -1,6 +1,6 @@
 -- The lines of a call sheet, as a table (document 01, "Call sheet"): "key=value lines in this order, each ended by one LF,
 -- no spaces, decimal without leading zeros". A later line with a number is one row more. Assumes nothing.
-use Prim.Native.Nat.{ℕ, zero, suc, _+_, _-_}
+use Prim.Native.Nat.{ℕ, _-_}
 use Prim.Native.String.{String}
 use mathlib.Core.Bool.{Bool, true, false}
 use mathlib.Core.List.{List, [], _∷_}

@@ -1,9 +1,9 @@
 -- The value of a call sheet: the struct and the User IDs beside it (document 01, "Call sheet": "Each user's identity is held
 -- at fixed width, eight rows of 60 octets, unused octets zero, unused SSRCs 0"). Assumes nothing.
-use Prim.Native.Nat.{ℕ, zero, suc}
+use Prim.Native.Nat.{ℕ}
 use mathlib.Core.Bool.{Bool, true, false, not, _&&_}
 use mathlib.Core.List.{List, [], _∷_, _++_, map}
-use lib.ListN.{length, getD, take, drop, replicate}
+use lib.ListN.{length, getD, take, drop}
 use lib.Dec.{eqb}
 use Rattle.octets.specs.Choice.{same, front}
 use Rattle.octets.specs.Buffer.{padded}

@@ -4,6 +4,7 @@ mod line;
 mod number;
 mod scan;
 mod seat;
+mod table;
 pub mod user;
 
 ghost use Rattle.sheet.specs.Promises.{read≡, users≡, valid≡, valid-with≡};
@@ -79,7 +80,7 @@ pub fn valid(sheet: Sheet) -> bool
         return false;
     }
     let numbers = number::numbers_of(sheet);
-    let lines = number::NUMBER_LINES + (seats as usize);
+    let lines = table::NUMBER_LINES + (seats as usize);
     let mut k = 0;
     while k < 19 {
         let n = numbers[k];

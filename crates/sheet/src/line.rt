@@ -1,5 +1,7 @@
 // One line of a sheet as text (document 01, "Call sheet"): key, number, on a seat's line a comma and a User ID, then LF.
-use super::number::NUMBER_LINES;
+use super::table::KEYS;
+use super::table::Rule;
+use super::table::rule_of;
 ghost use mathlib.Core.Path.{_≡_};
 ghost use mathlib.Core.List.{[], _∷_};
 ghost use Prim.Native.Nat.{_+_, _-_, _<_, _≤_, min};
@@ -8,16 +10,12 @@ ghost use Rattle.octets.specs.Choice.{begins, front};
 ghost use Rattle.octets.specs.Text.{digit, valueOf, plain};
 ghost use Rattle.sheet.specs.Table.{rowAt};
 ghost use Rattle.sheet.specs.Line.{visible};
-ghost use Rattle.sheet.specs.Inner.{LineIs, TailIs};
-
-// The keys, one behind the other, and where each begins; the last is a seat's.
-const KEYS: [u8; 97] =
-    *b"server=limit=request=response=endrequest=endresponse=txend=txendresponse=ack=resultid=seats=seat=";
-
-const KEY_AT: [usize; 13] = [0, 7, 13, 21, 30, 41, 53, 59, 73, 77, 86, 92, 97];
+ghost use Rattle.sheet.specs.Inner.{keys, LineIs, TailIs};
 
 // Numbers are told apart as far as this; every number that a line may have is below it.
 const CAP: u64 = 4294967296;
+
+const LF: u8 = 10;
 
 // A line that was found: its number, as far as CAP, the place of its User ID and that of its LF; or that there is none.
 pub enum Line {
@@ -59,28 +57,21 @@ fn stands_at(text: &[u8], at: usize, key: &[u8]) -> bool
     true
 }
 
-// Whether the key of row r stands at a place.
-fn has_key(text: &[u8], at: usize, r: usize) -> bool
-    requires { ⌜ r < 12 ⌝ }
-    ensures { λ b. ⌜ b ≡ begins (rowAt r .key) (drop at (now (text .entry))) ⌝ }
+// Whether the key of a rule stands at a place.
+fn has_key(text: &[u8], at: usize, rule: Rule) -> bool
+    requires { ⌜ (rule .from ≤ rule .end) × (rule .end ≤ length keys) ⌝ }
+    ensures { λ b. ⌜ b ≡ begins (take (rule .end - rule .from) (drop (rule .from) keys)) (drop at (now (text .entry))) ⌝ }
 {
-    let a = KEY_AT[r];
-    let e = KEY_AT[r + 1];
-    let keys = KEYS;
-    stands_at(text, at, &keys[a..e])
-}
-
-fn key_length(r: usize) -> usize
-    requires { ⌜ r < 12 ⌝ }
-    ensures { λ n. ⌜ n ≡ length (rowAt r .key) ⌝ }
-{
-    KEY_AT[r + 1] - KEY_AT[r]
+    let from = rule.from;
+    let end = rule.end;
+    let octets = KEYS;
+    stands_at(text, at, &octets[from..end])
 }
 
 fn is_digit(c: u8) -> bool
     ensures { λ r. ⌜ r ≡ digit c ⌝ }
 {
-    if c < 48 { false } else { c <= 57 }
+    if c < b'0' { false } else { c <= b'9' }
 }
 
 // The number that the digits at a place make, as far as CAP, and where they end.
@@ -95,7 +86,7 @@ fn digits(text: &[u8], at: usize) -> Decimal
         if !is_digit(c) {
             return Decimal { number, end: i };
         }
-        let next = number * 10 + ((c - 48) as u64);
+        let next = number * 10 + ((c - b'0') as u64);
         number = if CAP < next { CAP } else { next };
         i += 1;
     }
@@ -113,7 +104,7 @@ fn is_plain(text: &[u8], at: usize, end: usize) -> bool
     if end - at == 1 {
         return true;
     }
-    text[at] != 48
+    text[at] != b'0'
 }
 
 fn is_at(text: &[u8], at: usize, c: u8) -> bool
@@ -147,44 +138,46 @@ pub fn visible_end(text: &[u8], at: usize) -> usize
 }
 
 // What follows a number: LF, or on a seat's line the comma, a User ID and LF.
-fn tail(text: &[u8], at: usize, r: usize) -> Rest
-    requires { ⌜ (r < 12) × (at ≤ length (now text)) ⌝ }
-    ensures { λ found. ⌜ TailIs (now (text .entry)) at (rowAt r) found ⌝ }
+fn tail(text: &[u8], at: usize, k: usize) -> Rest
+    requires { ⌜ at ≤ length (now text) ⌝ }
+    ensures { λ found. ⌜ TailIs (now (text .entry)) at (rowAt k) found ⌝ }
 {
-    if r < NUMBER_LINES {
-        if is_at(text, at, 10) {
+    let rule = rule_of(k);
+    if !rule.named {
+        if is_at(text, at, LF) {
             return Rest::Good { name: at, end: at };
         }
         return Rest::Bad;
     }
-    if !is_at(text, at, 44) {
+    if !is_at(text, at, b',') {
         return Rest::Bad;
     }
     let name = at + 1;
     let end = visible_end(text, name);
-    if is_at(text, end, 10) {
+    if is_at(text, end, LF) {
         Rest::Good { name, end }
     } else {
         Rest::Bad
     }
 }
 
-// The line of row r at a place.
-pub fn line_at(text: &[u8], at: usize, r: usize) -> Line
-    requires { ⌜ (r < 12) × (at ≤ length (now text)) ⌝ }
-    ensures { λ found. ⌜ LineIs (now (text .entry)) at (rowAt r) found ⌝ }
+// The line at a place, as line k.
+pub fn line_at(text: &[u8], at: usize, k: usize) -> Line
+    requires { ⌜ at ≤ length (now text) ⌝ }
+    ensures { λ found. ⌜ LineIs (now (text .entry)) at (rowAt k) found ⌝ }
 {
-    if !has_key(text, at, r) {
+    let rule = rule_of(k);
+    if !has_key(text, at, rule) {
         return Line::Bad;
     }
-    let start = at + key_length(r);
+    let start = at + (rule.end - rule.from);
     let found = digits(text, start);
     let number = found.number;
     let end = found.end;
     if !is_plain(text, start, end) {
         return Line::Bad;
     }
-    let rest = tail(text, end, r);
+    let rest = tail(text, end, k);
     match rest {
         Rest::Good { name, end } => Line::Good { number, name, end },
         Rest::Bad => Line::Bad,

@@ -4,15 +4,14 @@ use super::Refusal;
 use super::Sheet;
 use super::line::Line;
 use super::line::line_at;
-use super::number::NUMBER_LINES;
 use super::number::is_good_number;
-use super::number::row_of;
 use super::seat::is_new_name;
 use super::seat::keep;
+use super::table::NUMBER_LINES;
 ghost use mathlib.Core.Path.{_≡_};
 ghost use Prim.Native.Nat.{_<_, _≤_};
 ghost use mathlib.Core.List.{[]};
-ghost use lib.ListN.{length, take};
+ghost use lib.ListN.{length};
 ghost use Rattle.sheet.specs.Inner.{JudgedIs, layoutOf};
 ghost use Rattle.sheet.specs.Reading.{Outcome};
 ghost use Rattle.sheet.specs.Value.{usersOf, readOf, readingOf, usersIn};
@@ -22,7 +21,7 @@ fn judged(text: &[u8], at: usize, k: usize, numbers: &[u32; 19], users: &[[u8; 6
     requires { ⌜ (k < 19) × (at ≤ length (now text)) ⌝ }
     ensures { λ r. ⌜ JudgedIs (now (text .entry)) at k (now (numbers .entry)) (now (users .entry)) r ⌝ }
 {
-    let found = line_at(text, at, row_of(k));
+    let found = line_at(text, at, k);
     match found {
         Line::Bad => Line::Bad,
         Line::Good { number, name, end } => {

@@ -3,7 +3,7 @@
 use mathlib.Core.Path.{sym}
 use lib.ListN.{drop-of-length-le}
 use borrow.Author.Needs.{needs}
-use Rattle.sheet.proofs.LineLaws.{begins-one}
+use Rattle.octets.proofs.Places.{begins-one}
 use Rattle.sheet.proofs.line.is_at.Statement.{statement}
 use Rattle.sheet.proofs.line.is_at.Tie as tie
 

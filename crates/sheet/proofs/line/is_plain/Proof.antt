@@ -8,7 +8,7 @@ use lib.ListN.{length, drop, length-drop}
 use lib.Seq.{drop-cons, getD-drop}
 use denote.Ref.{now}
 use borrow.Author.Needs.{needs}
-use Rattle.sheet.proofs.LineLaws.{plain-take}
+use Rattle.octets.proofs.Text.{plain-take}
 use Rattle.sheet.proofs.line.is_plain.Statement.{statement}
 use Rattle.sheet.proofs.line.is_plain.Tie as tie
 

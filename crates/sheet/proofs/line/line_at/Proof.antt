@@ -3,41 +3,57 @@
 use mathlib.Core.Path.{_≡_, refl, sym, ap, _∙_, subst}
 use mathlib.Core.Bool.{true}
 use mathlib.Core.List.{List}
-use Prim.Native.Nat.{ℕ, _+_, _≤_}
+use Prim.Native.Nat.{ℕ, _+_, _-_, _≤_, min}
 use native.Mathlib.Omega.{arith}
-use lib.ListN.{length, drop, length-drop}
+use lib.ListN.{length, drop, length-take, length-drop}
 use denote.Ref.{now}
 use borrow.Author.Needs.{needs}
 use borrow.Author.Tests.{not-true, not-false}
 use Rattle.octets.specs.Choice.{begins, front}
 use Rattle.octets.specs.Text.{digit, plain}
 use Rattle.octets.proofs.Choice.{true-T}
+use Rattle.octets.proofs.Places.{begins-length, take-front-between, front-end-le}
+use Rattle.sheet.specs.declared.table.Rule.{Rule}
 use Rattle.sheet.specs.Table.{Row, rowAt}
-use Rattle.sheet.specs.Inner.{TailIs}
-use Rattle.sheet.proofs.LineLaws.{begins-length, take-front-between, front-end-le, line-no-key, line-not-plain, line-bad-tail, line-good}
+use Rattle.sheet.specs.Inner.{keys, TailIs}
+use Rattle.sheet.proofs.LineLaws.{line-no-key, line-not-plain, line-bad-tail, line-good}
 use Rattle.sheet.proofs.line.line_at.Statement.{statement}
 use Rattle.sheet.proofs.line.line_at.Tie as tie
 
 -- the text, the place and the row that were passed, and where the digits start
-abbrev text : tie.After-key-length → List ℕ
-text c = now (c .before .before .before .before .args .text)
+abbrev text : tie.After-struct-known → List ℕ
+text c = now (c .before .before .before .before .before .args .text)
 
-abbrev place : tie.After-key-length → ℕ
-place c = c .before .before .before .before .args .at
+abbrev place : tie.After-struct-known → ℕ
+place c = c .before .before .before .before .before .args .at
 
-abbrev row : tie.After-key-length → Row
-row c = rowAt (c .before .before .before .before .args .r)
+abbrev row : tie.After-struct-known → Row
+row c = rowAt (c .before .before .before .before .before .args .k)
 
-abbrev start : tie.After-key-length → ℕ
-start c = place c + c .key-length .result
+abbrev rule : tie.After-struct-known → Rule
+rule c = c .before .before .before .rule-of .result
 
-key-found : (c : tie.After-key-length) → begins (row c .key) (drop (place c) (text c)) ≡ true
-key-found c = sym (c .before .before .has-key .ensures) ∙ not-false _ (c .before .if1 .left)
+abbrev start : tie.After-struct-known → ℕ
+start c = place c + (rule c .end - rule c .from)
 
-starts : (c : tie.After-key-length) → start c ≡ place c + length (row c .key)
-starts c = ap (λ (k : ℕ). place c + k) (c .key-length .ensures)
+-- the key that was looked for is the row's
+key-is : (c : tie.After-has-key)
+    → c .has-key .result ≡ begins (rowAt (c .before .before .before .args .k) .key) (drop (c .before .before .before .args .at) (now (c .before .before .before .args .text)))
+key-is c =
+    let a = c .before .before .before .args in
+    c .has-key .ensures ∙ ap (λ (key : List ℕ). begins key (drop (a .at) (now (a .text)))) (c .before .rule-of .ensures .key)
 
-start-le : (c : tie.After-key-length) → start c ≤ length (text c)
+key-found : (c : tie.After-struct-known) → begins (row c .key) (drop (place c) (text c)) ≡ true
+key-found c = sym (key-is (c .before .before)) ∙ not-false _ (c .before .if1 .left)
+
+starts : (c : tie.After-struct-known) → start c ≡ place c + length (row c .key)
+starts c =
+    let told = c .before .before .before .rule-of .ensures in
+    let n : length (row c .key) ≡ min (rule c .end - rule c .from) (length keys - rule c .from) =
+    rw (length-take, length-drop) at (ap length (sym (told .key))) in
+    omega (arith, told .ordered, told .within)
+
+start-le : (c : tie.After-struct-known) → start c ≤ length (text c)
 start-le c =
     let found = true-T (begins (row c .key) (drop (place c) (text c))) (key-found c) in
     omega (arith, starts c, rw length-drop at (begins-length (row c .key) (drop (place c) (text c)) found))
@@ -53,16 +69,19 @@ plain-is c =
     c .is-plain .ensures
     ∙ ap plain (take-front-between digit (text k) (start k) (c .before .digits .result .end) (c .before .digits .ensures .0))
 
+rule-of-requires : tie.Need-rule-of-requires
+rule-of-requires c κs = search needs
+
 has-key-requires : tie.Need-has-key-requires
-has-key-requires c κs = search needs
+has-key-requires c κs = (c .rule-of .ensures .ordered, c .rule-of .ensures .within)
 
 returns : tie.Need-returns
 returns c =
-    let a = c .before .before .before .args in
-    line-no-key (now (a .text)) (a .at) _ _ (rowAt (a .r)) refl refl (sym (c .before .has-key .ensures) ∙ not-true _ (c .if1 .taken))
+    let a = c .before .before .before .before .args in
+    line-no-key (now (a .text)) (a .at) _ _ (rowAt (a .k)) refl refl (sym (key-is (c .before)) ∙ not-true _ (c .if1 .taken))
 
-key-length-requires : tie.Need-key-length-requires
-key-length-requires c κs = search needs
+sub-start : tie.Need-sub-start
+sub-start c = c .before .before .before .rule-of .ensures .ordered
 
 add-start : tie.Need-add-start
 add-start c = omega (arith, start-le c)
@@ -81,7 +100,7 @@ returns-2 c =
     (sym (plain-is (c .before)) ∙ not-true _ (c .if2 .taken))
 
 tail-requires : tie.Need-tail-requires
-tail-requires c κs = (c .before .before .before .before .before .before .before .pre .0, end-le (c .before .before))
+tail-requires c κs = end-le (c .before .before)
 
 enum-known-rest : tie.Need-enum-known-rest
 enum-known-rest c = search needs
@@ -112,9 +131,10 @@ pub line-at-spec : {M : Type 1} → statement M
 line-at-spec =
     tie.close
     (tie.spec
+    rule-of-requires
     has-key-requires
     returns
-    key-length-requires
+    sub-start
     add-start
     digits-requires
     is-plain-requires

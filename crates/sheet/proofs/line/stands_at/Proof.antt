@@ -7,7 +7,7 @@ use native.Mathlib.Omega.{arith}
 use lib.ListN.{length, drop, length-drop, drop-of-length-le}
 use denote.Ref.{now}
 use Rattle.octets.specs.Choice.{begins}
-use Rattle.sheet.proofs.LineLaws.{begins-nil, begins-short, begins-drop-same, begins-drop-other}
+use Rattle.octets.proofs.Places.{begins-drop-other, begins-drop-same, begins-nil, begins-short}
 use Rattle.sheet.proofs.line.stands_at.Statement.{statement}
 use Rattle.sheet.proofs.line.stands_at.Tie as tie
 

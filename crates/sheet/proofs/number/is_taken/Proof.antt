@@ -20,8 +20,8 @@ abbrev μ-loop : tie.MeasureT-loop
 loop-holds : tie.Need-loop-holds Inv-loop μ-loop
 loop-holds c = refl
 
-family-of-requires : tie.Need-family-of-requires Inv-loop μ-loop
-family-of-requires c κs = search needs
+rule-of-requires : tie.Need-rule-of-requires Inv-loop μ-loop
+rule-of-requires c κs = search needs
 
 mul-if2 : tie.Need-mul-if2 Inv-loop μ-loop
 mul-if2 c = search needs
@@ -31,10 +31,10 @@ shared-slice-read-if2 c = search needs
 
 returns : tie.Need-returns Inv-loop μ-loop
 returns c =
-    let in-loop = c .before .before .before .before in
+    let in-loop = c .before .before .before .before .before in
     let l = in-loop .before .loop in
     let a = in-loop .before .before .before .args in
-    let p = sym (c .before .before .before .family-of .ensures) ∙ c .before .before .if1 .taken in
+    let p = sym (c .before .before .before .before .rule-of .ensures .family) ∙ c .before .before .if1 .taken in
     sym (l .inv ∙ taken-here (a .family) (a .n) (a .earlier .now) (l .j) (in-loop .loop-test .taken) p (c .if2 .taken))
 
 add-j : tie.Need-add-j Inv-loop μ-loop
@@ -45,12 +45,12 @@ loop-less c = omega arith
 
 loop-again : tie.Need-loop-again Inv-loop μ-loop
 loop-again c =
-    let in-loop = c .before .before in
+    let in-loop = c .before .before .before in
     let l = in-loop .before .loop in
     let a = in-loop .before .before .before .args in
     l .inv
     ∙ taken-skip (a .family) (a .n) (a .earlier .now) (l .j) (in-loop .loop-test .taken)
-    (λ p q. ⊎-elim (λ w. w .2 .left q) (λ w. w .left (c .before .family-of .ensures ∙ p)) (c .if1 .came))
+    (λ p q. ⊎-elim (λ w. w .2 .left q) (λ w. w .left (c .before .before .rule-of .ensures .family ∙ p)) (c .if1 .came))
 
 returns-2 : tie.Need-returns-2 Inv-loop μ-loop
 returns-2 c =
@@ -64,7 +64,7 @@ is-taken-spec =
     Inv-loop
     μ-loop
     loop-holds
-    family-of-requires
+    rule-of-requires
     mul-if2
     shared-slice-read-if2
     returns

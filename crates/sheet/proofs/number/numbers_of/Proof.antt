@@ -4,8 +4,8 @@ use mathlib.Core.Path.{ap}
 use mathlib.Core.List.{List, _++_}
 use Prim.Native.Nat.{ℕ}
 use borrow.Author.Needs.{needs}
+use Rattle.octets.proofs.Lists.{listed-drop}
 use Rattle.sheet.specs.Value.{numbersOf}
-use Rattle.sheet.proofs.NumberLaws.{listed-drop}
 use Rattle.sheet.proofs.number.numbers_of.Statement.{statement}
 use Rattle.sheet.proofs.number.numbers_of.Tie as tie
 

@@ -1,30 +1,30 @@
 -- `sheet::scan::judged` meets its contract: the line that was found, its number and its name are judged one after the other.
 -- Assumes nothing.
-use mathlib.Core.Path.{_≡_, refl, sym, ap, _∙_, subst}
-use mathlib.Core.Bool.{true, false}
+use mathlib.Core.Path.{_≡_, sym, ap, _∙_, subst}
 use mathlib.Core.List.{List}
-use Prim.Native.Nat.{ℕ, _-_, _≤_, _<_}
+use Prim.Native.Nat.{ℕ, _-_}
 use native.Mathlib.Omega.{arith}
-use lib.ListN.{length, take, drop}
+use lib.ListN.{drop}
 use denote.Ref.{now}
 use borrow.Author.Needs.{needs}
 use borrow.Author.Tests.{not-true, not-false}
-use Rattle.sheet.specs.declared.line.Line.{Line}
-use Rattle.sheet.specs.declared.line.Line.the-variants.{Good, Bad}
-use Rattle.sheet.specs.Table.{Row, table, numberLines, rowAt}
+use Rattle.sheet.specs.declared.line.Line.the-variants.{Good}
+use Rattle.sheet.specs.Table.{table, numberLines, rowAt}
 use Rattle.sheet.specs.Line.{entryIn}
 use Rattle.sheet.specs.Inner.{LineIs, newName}
 use Rattle.sheet.proofs.JudgeLaws.{judged-no-line, judged-no-number, judged-alone, judged-seat, judged-no-seat}
 use Rattle.sheet.proofs.scan.judged.Statement.{statement}
 use Rattle.sheet.proofs.scan.judged.Tie as tie
 
--- what was found, as line k's
-line-told : (c : tie.After-line-at) → LineIs (now (c .before .before .before .args .text)) (c .before .before .before .args .at) (rowAt (c .before .before .before .args .k)) (c .line-at .result)
-line-told c =
-    let a = c .before .before .before .args in
-    subst (λ (r : Row). LineIs (now (a .text)) (a .at) r (c .line-at .result)) (c .before .row-of .ensures .1) (c .line-at .ensures)
+-- where the line was found
+abbrev at-line : tie.After-known-told → tie.After-line-at
+at-line c = c .before .before .before
 
--- a line that was found: its number, and where its name begins and ends
+-- where the function began
+abbrev start : tie.After-known-told → tie.Start
+start c = at-line c .before .before
+
+-- its number, and where its name begins and ends
 abbrev number : tie.After-known-told → ℕ
 number c = c .before .found .given .0 .0
 
@@ -35,22 +35,22 @@ abbrev end : tie.After-known-told → ℕ
 end c = c .before .found .given .0 .1 .1 .0
 
 good-told : (c : tie.After-known-told)
-    → LineIs (now (c .before .before .before .before .before .before .args .text)) (c .before .before .before .before .before .before .args .at) (rowAt (c .before .before .before .before .before .before .args .k)) (Good (number c) (from c) (end c))
+    → LineIs (now (start c .args .text)) (start c .args .at) (rowAt (start c .args .k)) (Good (number c) (from c) (end c))
 good-told c =
-    let a = c .before .before .before .before .before .before .args in
-    subst (LineIs (now (a .text)) (a .at) (rowAt (a .k))) (c .before .found .given .1) (line-told (c .before .before .before))
+    let a = start c .args in
+    subst (LineIs (now (a .text)) (a .at) (rowAt (a .k))) (c .before .found .given .1) (at-line c .line-at .ensures)
 
 -- the name that was looked for is the line's
+abbrev at-name : tie.After-is-new-name → tie.After-known-told
+at-name c = c .before .before .before .before .before
+
 name-told : (c : tie.After-is-new-name)
-    → c .is-new-name .result ≡ newName (c .before .before .before .before .before .before .before .before .before .before .before .args .k - numberLines) (now (c .before .before .before .before .before .before .before .before .before .before .before .args .users)) (entryIn (rowAt (c .before .before .before .before .before .before .before .before .before .before .before .args .k)) (drop (c .before .before .before .before .before .before .before .before .before .before .before .args .at) (now (c .before .before .before .before .before .before .before .before .before .before .before .args .text))) .name)
+    → c .is-new-name .result
+    ≡ newName (start (at-name c) .args .k - numberLines) (now (start (at-name c) .args .users)) (entryIn (rowAt (start (at-name c) .args .k)) (drop (start (at-name c) .args .at) (now (start (at-name c) .args .text))) .name)
 unfolding LineIs numberLines table
 name-told c =
-    let f = c .before .before .before .before .before in
-    let a = f .before .before .before .before .before .before .args in
-    c .is-new-name .ensures ∙ ap (λ (name : List ℕ). newName (a .k - 11) (now (a .users)) name) (good-told f .2 .octets)
-
-row-of-requires : tie.Need-row-of-requires
-row-of-requires c κs = search needs
+    let a = start (at-name c) .args in
+    c .is-new-name .ensures ∙ ap (λ (name : List ℕ). newName (a .k - 11) (now (a .users)) name) (good-told (at-name c) .2 .octets)
 
 line-at-requires : tie.Need-line-at-requires
 line-at-requires c κs = search needs
@@ -67,7 +67,7 @@ is-good-number-requires c κs = search needs
 returns : tie.Need-returns
 returns c =
     let f = c .before .before in
-    let a = f .before .before .before .before .before .before .args in
+    let a = start f .args in
     judged-no-number (now (a .text)) (a .at) (a .k) (now (a .numbers)) (now (a .users)) (number f) (from f) (end f) (good-told f)
     (sym (c .before .is-good-number .ensures) ∙ not-true _ (c .if1 .taken))
 
@@ -75,7 +75,7 @@ returns-2 : tie.Need-returns-2
 unfolding numberLines table
 returns-2 c =
     let f = c .before .before .before in
-    let a = f .before .before .before .before .before .before .args in
+    let a = start f .args in
     judged-alone (now (a .text)) (a .at) (a .k) (now (a .numbers)) (now (a .users)) (number f) (from f) (end f) (good-told f)
     (sym (c .before .before .is-good-number .ensures) ∙ not-false _ (c .before .if1 .left))
     (c .if2 .taken)
@@ -100,15 +100,16 @@ is-new-name-requires c κs = search needs
 
 returns-3 : tie.Need-returns-3
 returns-3 c =
-    let a = c .before .before .before .before .before .args in
+    let found = c .before .before in
+    let a = found .before .before .args in
     judged-no-line (now (a .text)) (a .at) (a .k) (now (a .numbers)) (now (a .users))
-    (subst (LineIs (now (a .text)) (a .at) (rowAt (a .k))) (c .enum-told .given .1) (line-told (c .before .before)))
+    (subst (LineIs (now (a .text)) (a .at) (rowAt (a .k))) (c .enum-told .given .1) (found .line-at .ensures))
 
 returns-4 : tie.Need-returns-4
 unfolding numberLines table
 returns-4 c =
     let f = c .before .before .before .before .before .before in
-    let a = f .before .before .before .before .before .before .args in
+    let a = start f .args in
     judged-seat (now (a .text)) (a .at) (a .k) (now (a .numbers)) (now (a .users)) (number f) (from f) (end f) (good-told f)
     (sym (c .before .before .before .before .before .is-good-number .ensures) ∙ not-false _ (c .before .before .before .before .if1 .left))
     (c .before .before .before .if2 .left)
@@ -118,7 +119,7 @@ returns-5 : tie.Need-returns-5
 unfolding numberLines table
 returns-5 c =
     let f = c .before .before .before .before .before .before in
-    let a = f .before .before .before .before .before .before .args in
+    let a = start f .args in
     judged-no-seat (now (a .text)) (a .at) (a .k) (now (a .numbers)) (now (a .users)) (number f) (from f) (end f) (good-told f)
     (sym (c .before .before .before .before .before .is-good-number .ensures) ∙ not-false _ (c .before .before .before .before .if1 .left))
     (c .before .before .before .if2 .left)
@@ -128,7 +129,6 @@ pub judged-spec : {M : Type 1} → statement M
 judged-spec =
     tie.close
     (tie.spec
-    row-of-requires
     line-at-requires
     enum-told
     enum-known-found

@@ -1,18 +1,15 @@
 -- `sheet::scan::scan` meets its contract: after each turn the arrays hold what some good lines are laid out to, and the
 -- outcome from there is the text's own. Assumes nothing.
-use mathlib.Core.Path.{_≡_, refl, sym, ap, _∙_, subst}
+use mathlib.Core.Path.{_≡_, sym, ap, _∙_, subst}
 use mathlib.Core.Logic.{inl, inr, ⊎-elim}
-use mathlib.Core.List.{List, []}
-use Prim.Native.Nat.{ℕ, _+_, _-_, _≤_, _<_}
+use mathlib.Core.List.{List}
+use Prim.Native.Nat.{ℕ, _-_, _<_}
 use native.Mathlib.Omega.{arith}
 use lib.ListN.{set}
 use denote.Ref.{now}
 use borrow.Author.Needs.{needs}
-use Rattle.sheet.specs.declared.line.Line.{Line}
-use Rattle.sheet.specs.declared.line.Line.the-variants.{Good, Bad}
+use Rattle.sheet.specs.declared.line.Line.the-variants.{Good}
 use Rattle.sheet.specs.declared.Reading.{Reading}
-use Rattle.sheet.specs.Table.{table, numberLines, rowAt}
-use Rattle.sheet.specs.Line.{entryIn}
 use Rattle.sheet.specs.Value.{noRefusal, readingOf}
 use Rattle.sheet.specs.Inner.{JudgedIs}
 use Rattle.sheet.proofs.JudgeLaws.{judged-cap}

@@ -1,8 +1,8 @@
 -- `sheet::scan::sheet_of` meets its contract: the last eight numbers read one by one are what is left of them (`listed-drop`).
 -- Assumes nothing.
 use borrow.Author.Needs.{needs}
+use Rattle.octets.proofs.Lists.{listed-drop}
 use Rattle.sheet.specs.Inner.{layoutOf}
-use Rattle.sheet.proofs.NumberLaws.{listed-drop}
 use Rattle.sheet.proofs.scan.sheet_of.Statement.{statement}
 use Rattle.sheet.proofs.scan.sheet_of.Tie as tie
 

@@ -7,8 +7,7 @@ use native.Mathlib.Omega.{arith}
 use lib.ListN.{length, take, length-set}
 use lib.Seq.{take-all}
 use Rattle.octets.specs.Buffer.{over}
-use Rattle.octets.proofs.Buffer.{over-nil}
-use Rattle.sheet.proofs.SeatLaws.{set-over-take}
+use Rattle.octets.proofs.Buffer.{over-nil, set-over-take}
 use Rattle.sheet.proofs.seat.keep.Statement.{statement}
 use Rattle.sheet.proofs.seat.keep.Tie as tie
 

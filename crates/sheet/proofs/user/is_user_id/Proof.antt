@@ -4,9 +4,9 @@ use native.Mathlib.Nat.{zero-add}
 use denote.Ref.{now}
 use borrow.Author.Needs.{needs}
 use borrow.Author.Tests.{lt-leb, le-leb}
+use Rattle.octets.proofs.Places.{length-front-every}
 use Rattle.sheet.specs.Line.{visible}
 use Rattle.sheet.specs.Judge.{userId}
-use Rattle.sheet.proofs.LineLaws.{length-front-every}
 use Rattle.sheet.proofs.user.is_user_id.Statement.{statement}
 use Rattle.sheet.proofs.user.is_user_id.Tie as tie
 
