@@ -1,14 +1,1 @@
-pub mod Rules
-pub mod Judged
-pub mod Fresh
-pub mod Lines
-pub mod LineLaws
-pub mod NumberLaws
-pub mod SeatLaws
-pub mod Readings
-pub mod Laid
-pub mod Named
-pub mod JudgeLaws
-pub mod Scanned
-pub mod Claims
-pub mod ValidLaws
+pub mod Laws

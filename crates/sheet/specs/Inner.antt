@@ -9,7 +9,6 @@ use lib.ListN.{length, getD, take, drop}
 use lib.Dec.{T, leb, eqb}
 use Rattle.octets.specs.Choice.{pick, same, begins, front}
 use Rattle.octets.specs.Text.{ascii}
-use Rattle.sheet.specs.declared.Sheet.{Sheet}
 use Rattle.sheet.specs.declared.table.Rule.{Rule}
 use Rattle.sheet.specs.declared.line.Line.{Line}
 use Rattle.sheet.specs.declared.line.Line.the-variants.{Good, Bad}
@@ -93,21 +92,3 @@ JudgedIs t at k numbers users (Good n a e) =
     × NameAt t a e (entryIn (rowAt k) (drop at t) .name)
     × (e + 1 ≡ at + length (lineOf (rowAt k) (entryIn (rowAt k) (drop at t))))
 JudgedIs t at k numbers users Bad = goodAt t at k numbers users ≡ false
-
--- nineteen numbers as a sheet
-unfoldable pub layoutOf : List ℕ → Sheet
-layoutOf n =
-    record {
-      server = getD n 0 0;
-      limit = getD n 1 0;
-      request = getD n 2 0;
-      response = getD n 3 0;
-      endrequest = getD n 4 0;
-      endresponse = getD n 5 0;
-      txend = getD n 6 0;
-      txendresponse = getD n 7 0;
-      ack = getD n 8 0;
-      resultid = getD n 9 0;
-      seats = getD n 10 0;
-      ssrcs = drop 11 n;
-    }

@@ -17,23 +17,27 @@ use Rattle.sheet.specs.Reading.{Outcome, reads, refused, outcome}
 
 -- ---- the entries laid out as a value
 
--- the numbers in the table's order, then the SSRCs of the seats
-unfoldable pub sheetFrom : List ℕ → Sheet
-sheetFrom ns =
+-- the struct with number n k on line k
+unfoldable pub sheetBy : (ℕ → ℕ) → List ℕ → Sheet
+sheetBy n ssrcs =
     record {
-      server = getD ns 0 0;
-      limit = getD ns 1 0;
-      request = getD ns 2 0;
-      response = getD ns 3 0;
-      endrequest = getD ns 4 0;
-      endresponse = getD ns 5 0;
-      txend = getD ns 6 0;
-      txendresponse = getD ns 7 0;
-      ack = getD ns 8 0;
-      resultid = getD ns 9 0;
-      seats = getD ns 10 0;
-      ssrcs = padded mostSeats 0 (drop numberLines ns);
+      server = n 0;
+      limit = n 1;
+      request = n 2;
+      response = n 3;
+      endrequest = n 4;
+      endresponse = n 5;
+      txend = n 6;
+      txendresponse = n 7;
+      ack = n 8;
+      resultid = n 9;
+      seats = n 10;
+      ssrcs = ssrcs;
     }
+
+-- the numbers in the order of the lines, those of the seats the SSRCs
+unfoldable pub sheetFrom : List ℕ → Sheet
+sheetFrom ns = sheetBy (λ (k : ℕ). getD ns k 0) (padded mostSeats 0 (drop numberLines ns))
 
 unfoldable pub sheetOf : List Entry → Sheet
 sheetOf es = sheetFrom (numbersIn es)

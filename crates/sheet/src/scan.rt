@@ -12,9 +12,9 @@ ghost use mathlib.Core.Path.{_≡_};
 ghost use Prim.Native.Nat.{_<_, _≤_};
 ghost use mathlib.Core.List.{[]};
 ghost use lib.ListN.{length};
-ghost use Rattle.sheet.specs.Inner.{JudgedIs, layoutOf};
+ghost use Rattle.sheet.specs.Inner.{JudgedIs};
 ghost use Rattle.sheet.specs.Reading.{Outcome};
-ghost use Rattle.sheet.specs.Value.{usersOf, readOf, readingOf, usersIn};
+ghost use Rattle.sheet.specs.Value.{sheetFrom, usersOf, readOf, readingOf, usersIn};
 
 // The line at a place as line k, judged against the numbers and the User IDs of the lines before it.
 fn judged(text: &[u8], at: usize, k: usize, numbers: &[u32; 19], users: &[[u8; 60]; 8]) -> Line
@@ -42,7 +42,7 @@ fn judged(text: &[u8], at: usize, k: usize, numbers: &[u32; 19], users: &[[u8; 6
 
 // The sheet with these numbers in the order of its lines, and the SSRCs behind them.
 fn sheet_of(n: [u32; 19]) -> Sheet
-    ensures { λ r. ⌜ r ≡ layoutOf n ⌝ }
+    ensures { λ r. ⌜ r ≡ sheetFrom n ⌝ }
 {
     Sheet {
         server: n[0],

@@ -1,7 +1,7 @@
 -- `sheet::read` meets its contract: it is the pass, over rows of zeros.
 -- Assumes nothing.
 use borrow.Author.Needs.{needs}
-use Rattle.sheet.proofs.Scanned.{no-users}
+use Rattle.sheet.proofs.Laws.Scanned.{no-users}
 use Rattle.sheet.proofs.read.Statement.{statement}
 use Rattle.sheet.proofs.read.Tie as tie
 

@@ -3,7 +3,7 @@
 use mathlib.Core.Path.{sym, ap, _∙_}
 use denote.Ref.{now}
 use Rattle.sheet.specs.declared.Reading.{Reading}
-use Rattle.sheet.proofs.Scanned.{no-users, usersIn-refused}
+use Rattle.sheet.proofs.Laws.Scanned.{no-users, usersIn-refused}
 use Rattle.sheet.proofs.users.Statement.{statement}
 use Rattle.sheet.proofs.users.Tie as tie
 

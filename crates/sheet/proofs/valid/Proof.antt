@@ -10,7 +10,7 @@ use native.Mathlib.Omega.{arith}
 use lib.ListN.{length}
 use Rattle.sheet.specs.Table.{table, numberLines, mostSeats}
 use Rattle.sheet.specs.Value.{validAlone}
-use Rattle.sheet.proofs.ValidLaws.{restGood, restGood-line, restGood-past, restGood-end, restGood-all, many-seats}
+use Rattle.sheet.proofs.Laws.Values.{restGood, restGood-line, restGood-past, restGood-end, restGood-all, many-seats}
 use Rattle.sheet.proofs.valid.Statement.{statement}
 use Rattle.sheet.proofs.valid.Tie as tie
 

@@ -12,7 +12,7 @@ use Rattle.octets.proofs.Choice.{T-true, true-T, T-false, false-T}
 use Rattle.sheet.specs.Table.{mostSeats}
 use Rattle.sheet.specs.Value.{validAlone}
 use Rattle.sheet.specs.Inner.{goodRow}
-use Rattle.sheet.proofs.ValidLaws.{valid-rows, rows-valid, not-alone}
+use Rattle.sheet.proofs.Laws.Values.{valid-rows, rows-valid, not-alone}
 use Rattle.sheet.proofs.valid_with.Statement.{statement}
 use Rattle.sheet.proofs.valid_with.Tie as tie
 

@@ -10,7 +10,7 @@ use native.Mathlib.Omega.{arith}
 use lib.ListN.{length, getD}
 use lib.Dec.{eqb}
 use Rattle.sheet.specs.Find.{seatOfSsrc}
-use Rattle.sheet.proofs.SeatLaws.{first-seat-none, first-seat-some}
+use Rattle.sheet.proofs.Laws.Rows.{first-seat-none, first-seat-some}
 use Rattle.sheet.proofs.find.by_ssrc.Statement.{statement}
 use Rattle.sheet.proofs.find.by_ssrc.Tie as tie
 

@@ -11,7 +11,7 @@ use lib.ListN.{length, getD}
 use Rattle.octets.specs.Choice.{same}
 use Rattle.sheet.specs.Value.{nameOf}
 use Rattle.sheet.specs.Find.{seatOfUser}
-use Rattle.sheet.proofs.SeatLaws.{first-seat-none, first-seat-some}
+use Rattle.sheet.proofs.Laws.Rows.{first-seat-none, first-seat-some}
 use Rattle.sheet.proofs.find.by_user.Statement.{statement}
 use Rattle.sheet.proofs.find.by_user.Tie as tie
 

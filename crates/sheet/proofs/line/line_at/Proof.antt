@@ -16,7 +16,7 @@ use Rattle.octets.proofs.Places.{begins-length, take-front-between, front-end-l
 use Rattle.sheet.specs.declared.table.Rule.{Rule}
 use Rattle.sheet.specs.Table.{Row, rowAt}
 use Rattle.sheet.specs.Inner.{keys, TailIs}
-use Rattle.sheet.proofs.LineLaws.{line-no-key, line-not-plain, line-bad-tail, line-good}
+use Rattle.sheet.proofs.Laws.LineAt.{line-no-key, line-not-plain, line-bad-tail, line-good}
 use Rattle.sheet.proofs.line.line_at.Statement.{statement}
 use Rattle.sheet.proofs.line.line_at.Tie as tie
 

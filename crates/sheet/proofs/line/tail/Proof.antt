@@ -6,7 +6,7 @@ use denote.Ref.{now}
 use borrow.Author.Needs.{needs}
 use borrow.Author.Tests.{not-true, not-false}
 use Rattle.sheet.specs.Table.{rowAt}
-use Rattle.sheet.proofs.LineLaws.{tail-lf, tail-no-lf, tail-no-comma, tail-no-end, tail-seat}
+use Rattle.sheet.proofs.Laws.LineAt.{tail-lf, tail-no-lf, tail-no-comma, tail-no-end, tail-seat}
 use Rattle.sheet.proofs.line.tail.Statement.{statement}
 use Rattle.sheet.proofs.line.tail.Tie as tie
 

@@ -6,8 +6,8 @@ use native.Mathlib.Omega.{arith}
 use lib.ListN.{length, take}
 use lib.Seq.{length-take-le}
 use Rattle.sheet.specs.Table.{rowAt}
-use Rattle.sheet.proofs.Rules.{greatest-cap}
-use Rattle.sheet.proofs.NumberLaws.{goodNumber-low, goodNumber-high, goodNumber-within}
+use Rattle.sheet.proofs.Laws.Rules.{greatest-cap}
+use Rattle.sheet.proofs.Laws.Numbers.{goodNumber-low, goodNumber-high, goodNumber-within}
 use Rattle.sheet.proofs.number.is_good_number.Statement.{statement}
 use Rattle.sheet.proofs.number.is_good_number.Tie as tie
 

@@ -7,7 +7,7 @@ use borrow.Author.Needs.{needs}
 use native.Mathlib.Omega.{arith}
 use lib.ListN.{length, drop}
 use Rattle.sheet.specs.Judge.{taken}
-use Rattle.sheet.proofs.NumberLaws.{taken-here, taken-skip, taken-end}
+use Rattle.sheet.proofs.Laws.Numbers.{taken-here, taken-skip, taken-end}
 use Rattle.sheet.proofs.number.is_taken.Statement.{statement}
 use Rattle.sheet.proofs.number.is_taken.Tie as tie
 

@@ -12,7 +12,7 @@ use Rattle.sheet.specs.declared.line.Line.the-variants.{Good}
 use Rattle.sheet.specs.Table.{table, numberLines, rowAt}
 use Rattle.sheet.specs.Line.{entryIn}
 use Rattle.sheet.specs.Inner.{LineIs, newName}
-use Rattle.sheet.proofs.JudgeLaws.{judged-no-line, judged-no-number, judged-alone, judged-seat, judged-no-seat}
+use Rattle.sheet.proofs.Laws.Judgement.{judged-no-line, judged-no-number, judged-alone, judged-seat, judged-no-seat}
 use Rattle.sheet.proofs.scan.judged.Statement.{statement}
 use Rattle.sheet.proofs.scan.judged.Tie as tie
 

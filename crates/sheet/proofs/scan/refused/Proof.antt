@@ -1,10 +1,9 @@
 -- `sheet::scan::refused` meets its contract: nineteen zeros laid out are the sheet of no entries.
 -- Assumes nothing.
 use borrow.Author.Needs.{needs}
-use Rattle.sheet.specs.Value.{readingOf, sheetOf, sheetFrom}
+use Rattle.sheet.specs.Value.{readingOf, sheetOf, sheetBy, sheetFrom}
 use Rattle.sheet.specs.Table.{table, numberLines, mostSeats}
 use Rattle.octets.specs.Buffer.{padded}
-use Rattle.sheet.specs.Inner.{layoutOf}
 use Rattle.sheet.proofs.scan.refused.Statement.{statement}
 use Rattle.sheet.proofs.scan.refused.Tie as tie
 
@@ -15,7 +14,7 @@ cast-t4 : tie.Need-cast-t4
 cast-t4 c = search needs
 
 returns : tie.Need-returns
-unfolding readingOf sheetOf sheetFrom padded table numberLines mostSeats layoutOf
+unfolding readingOf sheetOf sheetFrom padded table numberLines mostSeats sheetBy
 returns c = rw (c .sheet-of .ensures)
 
 pub refused-spec : {M : Type 1} → statement M

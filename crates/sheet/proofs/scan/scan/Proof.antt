@@ -12,8 +12,8 @@ use Rattle.sheet.specs.declared.line.Line.the-variants.{Good}
 use Rattle.sheet.specs.declared.Reading.{Reading}
 use Rattle.sheet.specs.Value.{noRefusal, readingOf}
 use Rattle.sheet.specs.Inner.{JudgedIs}
-use Rattle.sheet.proofs.JudgeLaws.{judged-cap}
-use Rattle.sheet.proofs.Scanned.{Scanned, scanned-none, scanned-room, scanned-refused, scanned-reading, scanned-users, scanned-turn, name-fits}
+use Rattle.sheet.proofs.Laws.Judgement.{judged-cap}
+use Rattle.sheet.proofs.Laws.Scanned.{Scanned, scanned-none, scanned-room, scanned-refused, scanned-reading, scanned-users, scanned-turn, name-fits}
 use Rattle.sheet.proofs.scan.scan.Statement.{statement}
 use Rattle.sheet.proofs.scan.scan.Tie as tie
 

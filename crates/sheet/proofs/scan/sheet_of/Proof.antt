@@ -1,8 +1,14 @@
 -- `sheet::scan::sheet_of` meets its contract: the last eight numbers read one by one are what is left of them (`listed-drop`).
 -- Assumes nothing.
+use mathlib.Core.Path.{_≡_, sym, ap, _∙_}
+use Prim.Native.Nat.{ℕ, _-_}
+use native.Mathlib.Omega.{arith}
+use lib.ListN.{length, getD, drop, length-drop}
 use borrow.Author.Needs.{needs}
 use Rattle.octets.proofs.Lists.{listed-drop}
-use Rattle.sheet.specs.Inner.{layoutOf}
+use Rattle.octets.proofs.Buffer.{padded-full}
+use Rattle.sheet.specs.Table.{table, numberLines, mostSeats}
+use Rattle.sheet.specs.Value.{sheetBy, sheetFrom}
 use Rattle.sheet.proofs.scan.sheet_of.Statement.{statement}
 use Rattle.sheet.proofs.scan.sheet_of.Tie as tie
 
@@ -64,8 +70,12 @@ array-read-t59 : tie.Need-array-read-t59
 array-read-t59 c = search needs
 
 returns : tie.Need-returns
-unfolding layoutOf
-returns c = rw (← listed-drop 8 11 (c .args .t1) (search needs))
+unfolding sheetBy sheetFrom numberLines table mostSeats
+returns c =
+    let n = c .args .t1 in
+    let l : length n ≡ 19 = search needs in
+    let d : length (drop 11 n) ≡ length n - 11 = length-drop 11 n in
+    ap (sheetBy (λ (k : ℕ). getD n k 0)) (listed-drop 8 11 n l ∙ sym (padded-full 8 0 (drop 11 n) (omega arith)))
 
 pub sheet-of-spec : {M : Type 1} → statement M
 sheet-of-spec =

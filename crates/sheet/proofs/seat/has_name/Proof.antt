@@ -9,7 +9,7 @@ use lib.ListN.{length, drop}
 use Rattle.octets.specs.Choice.{same}
 use Rattle.octets.proofs.Choice.{same-end, same-length}
 use Rattle.sheet.specs.Value.{nameOf}
-use Rattle.sheet.proofs.SeatLaws.{length-nameOf-le, same-nameOf-step}
+use Rattle.sheet.proofs.Laws.Rows.{length-nameOf-le, same-nameOf-step}
 use Rattle.sheet.proofs.seat.has_name.Statement.{statement}
 use Rattle.sheet.proofs.seat.has_name.Tie as tie
 

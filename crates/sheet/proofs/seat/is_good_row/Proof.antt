@@ -8,7 +8,7 @@ use borrow.Author.Tests.{not-true, not-false}
 use lib.ListN.{getD}
 use Rattle.octets.specs.Choice.{same}
 use Rattle.sheet.specs.Value.{rowOf, nameOf}
-use Rattle.sheet.proofs.SeatLaws.{take-nameOf, same-rowOf, goodRow-stained, goodRow-unused, goodRow-used}
+use Rattle.sheet.proofs.Laws.Rows.{take-nameOf, same-rowOf, goodRow-stained, goodRow-unused, goodRow-used}
 use Rattle.sheet.proofs.seat.is_good_row.Statement.{statement}
 use Rattle.sheet.proofs.seat.is_good_row.Tie as tie
 

@@ -4,7 +4,7 @@ use mathlib.Core.Path.{sym, ap, _∙_}
 use borrow.Author.Needs.{needs}
 use borrow.Author.Tests.{not-true, not-false}
 use Rattle.sheet.specs.Find.{foundSaid}
-use Rattle.sheet.proofs.SeatLaws.{newName-bad, newName-taken, newName-free}
+use Rattle.sheet.proofs.Laws.Rows.{newName-bad, newName-taken, newName-free}
 use Rattle.sheet.proofs.seat.is_new_name.Statement.{statement}
 use Rattle.sheet.proofs.seat.is_new_name.Tie as tie
 

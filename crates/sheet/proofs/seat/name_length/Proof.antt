@@ -7,7 +7,7 @@ use borrow.Author.Needs.{needs}
 use native.Mathlib.Omega.{arith}
 use lib.ListN.{length, drop}
 use Rattle.sheet.specs.Value.{nameOf}
-use Rattle.sheet.proofs.SeatLaws.{nameOf-zero, nameOf-step, nameOf-end}
+use Rattle.sheet.proofs.Laws.Rows.{nameOf-zero, nameOf-step, nameOf-end}
 use Rattle.sheet.proofs.seat.name_length.Statement.{statement}
 use Rattle.sheet.proofs.seat.name_length.Tie as tie
 

@@ -2,7 +2,7 @@
 -- Assumes nothing.
 use borrow.Author.Needs.{needs}
 use Rattle.sheet.specs.Table.{table, numberLines}
-use Rattle.sheet.proofs.Rules.{rows, rule-number, rule-seat}
+use Rattle.sheet.proofs.Laws.Rules.{rows, rule-number, rule-seat}
 use Rattle.sheet.proofs.table.rule_of.Statement.{statement}
 use Rattle.sheet.proofs.table.rule_of.Tie as tie
 

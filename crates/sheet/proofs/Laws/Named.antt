@@ -13,9 +13,9 @@ use Rattle.sheet.specs.Table.{rowAt}
 use Rattle.sheet.specs.Line.{Entry, lineOf, textFrom}
 use Rattle.sheet.specs.Judge.{numbersIn, good, inTurn, whole}
 use Rattle.sheet.specs.Reading.{refused, goodLine, behind, readBy, firstLine, lines}
-use Rattle.sheet.proofs.Judged.{inTurn-snoc, good-shaped, numbersIn-append, Open, open-more, whole-front}
-use Rattle.sheet.proofs.Lines.{firstLine-split, lines-line, line-pos}
-use Rattle.sheet.proofs.Readings.{entryAt, goodLine-good, goodLine-split, readBy-whole, readBy-none, readBy-bad, readBy-good, length-snoc, read-line}
+use Rattle.sheet.proofs.Laws.Entries.{inTurn-snoc, good-shaped, numbersIn-append, Open, open-more, whole-front}
+use Rattle.sheet.proofs.Laws.Lines.{firstLine-split, lines-line, line-pos}
+use Rattle.sheet.proofs.Laws.Readings.{entryAt, goodLine-good, goodLine-split, readBy-whole, readBy-none, readBy-bad, readBy-good, length-snoc, read-line}
 
 -- ---- a refusal goes by the way that led there
 

@@ -15,9 +15,9 @@ use Rattle.sheet.specs.Table.{numberLines, rowAt}
 use Rattle.sheet.specs.Line.{lineOf, entryIn}
 use Rattle.sheet.specs.Judge.{goodNumber}
 use Rattle.sheet.specs.Inner.{cap, LineIs, newName, goodAt, JudgedIs}
-use Rattle.sheet.proofs.Rules.{greatest-cap}
-use Rattle.sheet.proofs.Fresh.{number-bound}
-use Rattle.sheet.proofs.NumberLaws.{goodNumber-high}
+use Rattle.sheet.proofs.Laws.Rules.{greatest-cap}
+use Rattle.sheet.proofs.Laws.Fresh.{number-bound}
+use Rattle.sheet.proofs.Laws.Numbers.{goodNumber-high}
 
 -- a number is good exactly if, as far as the cap, it is
 pub goodNumber-cap : (ns : List ℕ) (n : ℕ) → goodNumber ns (min n cap) ≡ goodNumber ns n

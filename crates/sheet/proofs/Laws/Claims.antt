@@ -20,12 +20,12 @@ use Rattle.sheet.specs.Judge.{numbersIn, namesIn, goodNumber, goodName, 
 use Rattle.sheet.specs.Reading.{Outcome, reads, refused, outcome, lines}
 use Rattle.sheet.specs.Value.{sheetFrom, sheetOf, usersOf, numbersOf, seatEntries, entriesOf, validWith, validAlone, noRefusal, badLine, readingOf, usersFrom, readOf, usersIn}
 use Rattle.sheet.specs.Claims.{valueText, ReadsTo, ReadsExactly, ValidExactly, ValidAloneExactly, SomeBegins, NoneReads, NamedExactly}
-use Rattle.sheet.proofs.Judged.{numbersIn-append, length-namesIn, seatsIn, whole-eq, good-numbers}
-use Rattle.sheet.proofs.Fresh.{fresh-name, seats-bound, completed, many}
-use Rattle.sheet.proofs.Lines.{textFrom-append}
-use Rattle.sheet.proofs.Readings.{outcome-reads, reads-outcome}
-use Rattle.sheet.proofs.Laid.{numbersIn-seats, sheetFrom-numbers, valid-length, entriesOf-laid, laid-valid, valid-entries, sheetOf-entries, usersOf-entries}
-use Rattle.sheet.proofs.Named.{none-begins, some-begins, lines-front}
+use Rattle.sheet.proofs.Laws.Entries.{numbersIn-append, length-namesIn, seatsIn, whole-eq, good-numbers}
+use Rattle.sheet.proofs.Laws.Fresh.{fresh-name, seats-bound, completed, many}
+use Rattle.sheet.proofs.Laws.Lines.{textFrom-append}
+use Rattle.sheet.proofs.Laws.Readings.{outcome-reads, reads-outcome}
+use Rattle.sheet.proofs.Laws.Laid.{numbersIn-seats, sheetFrom-numbers, valid-length, entriesOf-laid, laid-valid, valid-entries, sheetOf-entries, usersOf-entries}
+use Rattle.sheet.proofs.Laws.Named.{none-begins, some-begins, lines-front}
 
 -- ---- which texts read
 

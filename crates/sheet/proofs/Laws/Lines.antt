@@ -16,8 +16,8 @@ use Rattle.octets.proofs.Text.{value-decimal, digits-decimal, digit-low, length
 use Rattle.sheet.specs.Table.{Row, rowAt}
 use Rattle.sheet.specs.Line.{Entry, lf, comma, visible, tailOf, lineOf, digitsAfter, nameAfter, entryIn, textFrom, textOf}
 use Rattle.sheet.specs.Reading.{firstLine, lines}
-use Rattle.sheet.proofs.Rules.{plainOctet, key-plain}
-use Rattle.sheet.proofs.Judged.{shaped}
+use Rattle.sheet.proofs.Laws.Rules.{plainOctet, key-plain}
+use Rattle.sheet.proofs.Laws.Entries.{shaped}
 
 -- ---- the entry is read off its line
 

@@ -1,61 +1,47 @@
 -- Laws on the reader's one pass: what its arrays hold after some good lines, and what one line more does. Assumes nothing.
-use mathlib.Core.Path.{_≡_, refl, sym, ap, ap₂, _∙_, subst}
+use mathlib.Core.Path.{fun-ext, _≡_, refl, sym, ap, ap₂, _∙_, subst}
 use mathlib.Core.Logic.{_⊎_, ⊎-elim}
-use mathlib.Core.Bool.{Bool, true, false, not, _&&_, _||_}
-use mathlib.Core.Option.{Option, none, some, Option·map}
+use mathlib.Core.Bool.{Bool, true, false, not, _&&_}
 use mathlib.Core.List.{List, [], _∷_, _++_, map, map-append}
 use Prim.Native.Nat.{ℕ, zero, suc, _+_, _-_, _≤_, _<_, zero-le}
 use native.Mathlib.Nat.{le-refl, add-zero}
 use native.Mathlib.Omega.{arith}
-use lib.ListN.{length, getD, set, take, drop, replicate, take-append-drop, length-append, length-map, length-drop, getD-replicate, List·getD-append, List·getD-eq-default, drop-of-length-le}
+use lib.ListN.{length, getD, set, take, drop, replicate, take-append-drop, length-append, length-map, length-drop, getD-replicate, length-replicate, List·getD-append, List·getD-eq-default, drop-of-length-le}
 use lib.Seq.{drop-append-le, drop-drop, getD-at, getD-append-add, length-take-le}
 use lib.Dec.{T, leb, leb→le}
 use borrow.Author.Tests.{le-leb, lt-leb}
-use Rattle.octets.specs.Choice.{pick, same, begins, every, some-of, first-place}
+use Rattle.octets.specs.Choice.{pick, same, begins, every, some-of}
 use Rattle.octets.specs.Buffer.{padded, over}
 use Rattle.octets.proofs.Lists.{map-drop, drop-replicate}
-use Rattle.octets.proofs.Choice.{some-of-append, T-true, T-false, le-or-lt, T-and-left, T-and-right}
-use Rattle.octets.proofs.Buffer.{take-padded, set-padded, getD-padded}
-use Rattle.sheet.specs.Table.{table, seatRow, numberLines, seatsLine, mostSeats, rowAt}
+use Rattle.octets.proofs.Choice.{T-true, T-false, le-or-lt, T-and-left, T-and-right}
+use Rattle.octets.proofs.Buffer.{take-padded, set-padded, getD-padded, padded-full}
+use Rattle.sheet.specs.Table.{table, numberLines, seatsLine, mostSeats, rowAt}
 use Rattle.sheet.specs.Line.{Entry, longestName, visible, lineOf, entryIn, textFrom, textOf}
 use Rattle.sheet.specs.Judge.{numbersIn, namesIn, goodNumber, goodName, userId, good, inTurn, whole}
 use Rattle.sheet.specs.Reading.{Outcome, reads, refused, goodLine, behind, readBy, outcome}
-use Rattle.sheet.specs.Value.{sheetFrom, sheetOf, rowOf, usersOf, nameOf, alone, noRefusal, readingOf, usersFrom, readOf, usersIn}
+use Rattle.sheet.specs.Value.{sheetBy, sheetFrom, sheetOf, rowOf, usersOf, nameOf, alone, noRefusal, readingOf, usersFrom, readOf, usersIn}
 use Rattle.sheet.specs.Find.{seatOfUser}
-use Rattle.sheet.specs.Inner.{isNone, newName, goodAt, JudgedIs, layoutOf}
+use Rattle.sheet.specs.Inner.{isNone, newName, goodAt, JudgedIs}
 use Rattle.sheet.specs.declared.line.Line.the-variants.{Good}
-use Rattle.sheet.proofs.Rules.{rowAt-seat, row-unnamed}
-use Rattle.sheet.proofs.Judged.{good-numbers, whole-eq, eq-whole, open-more, inTurn-drop, inTurn-snoc, length-numbersIn, length-namesIn, numbersIn-append, seatsIn, Open}
-use Rattle.sheet.proofs.Fresh.{seats-bound}
-use Rattle.sheet.proofs.Laid.{alone-take, nameOf-rowOf, seat-name}
-use Rattle.sheet.proofs.Lines.{length-textOf-snoc}
-use Rattle.sheet.proofs.Readings.{entryAt, goodLine-good, readBy-whole, readBy-bad, readBy-good, length-behind}
+use Rattle.sheet.proofs.Laws.Rules.{row-unnamed}
+use Rattle.sheet.proofs.Laws.Entries.{good-numbers, whole-eq, eq-whole, open-more, inTurn-drop, inTurn-snoc, length-numbersIn, length-namesIn, numbersIn-append, seatsIn, Open}
+use Rattle.sheet.proofs.Laws.Fresh.{seats-bound}
+use Rattle.sheet.proofs.Laws.Names.{no-name, seat-named, new-among}
+use Rattle.sheet.proofs.Laws.Laid.{alone-take, nameOf-rowOf, seat-name}
+use Rattle.sheet.proofs.Laws.Lines.{length-textOf-snoc}
+use Rattle.sheet.proofs.Laws.Readings.{entryAt, goodLine-good, readBy-whole, readBy-bad, readBy-good, length-behind}
 
 -- ---- a name is new among the rows exactly if it is new among the names
 
-pub isNone-first : {A : Type 0} (p : A → Bool) (xs : List A) → isNone (first-place p xs) ≡ not (some-of p xs)
-isNone-first p [] = refl
-isNone-first p (x ∷ xs) = by-test (p x) (first-place p xs) (some-of p xs) (isNone-first p xs)
-  where
-    by-test : (b : Bool) (o : Option ℕ) (t : Bool) → isNone o ≡ not t → isNone (pick b (some 0) (Option·map suc o)) ≡ not (b || t)
-    by-test true o t e = refl
-    by-test false none t e = e
-    by-test false (some n) t e = e
-
 -- the rows of seats hold their names
-some-of-rows : (xs b : List Entry) (name : List ℕ) → T (inTurn good b xs) → numberLines ≤ length b
-    → some-of (λ (row : List ℕ). same (nameOf row) name) (map rowOf (namesIn xs)) ≡ some-of (λ (other : List ℕ). same other name) (namesIn xs)
+nameOf-rows : (xs b : List Entry) → T (inTurn good b xs) → numberLines ≤ length b → map nameOf (map rowOf (namesIn xs)) ≡ namesIn xs
 unfolding inTurn
-some-of-rows [] b name t h = refl
-some-of-rows (e ∷ es) b name t h =
+nameOf-rows [] b t h = refl
+nameOf-rows (e ∷ es) b t h =
     let l : length (b ++ (e ∷ [])) ≡ length b + 1 = length-append b (e ∷ []) in
-    let n : nameOf (rowOf (e .name)) ≡ e .name = nameOf-rowOf (e .name) (seat-name b e (T-and-left (good b e) (inTurn good (b ++ (e ∷ [])) es) t) h) in
-    rw (n, some-of-rows es (b ++ (e ∷ [])) name (T-and-right (good b e) (inTurn good (b ++ (e ∷ [])) es) t) (omega arith))
-
--- a line with a number alone has no name
-pub some-of-alone : (ns : List ℕ) (c : ℕ) (cs : List ℕ) → some-of (λ (other : List ℕ). same other (c ∷ cs)) (namesIn (map alone ns)) ≡ false
-some-of-alone [] c cs = refl
-some-of-alone (n ∷ ns) c cs = some-of-alone ns c cs
+    ap₂ (λ (x : List ℕ) (xs : List (List ℕ)). x ∷ xs)
+    (nameOf-rowOf (e .name) (seat-name b e (T-and-left (good b e) (inTurn good (b ++ (e ∷ [])) es) t) h))
+    (nameOf-rows es (b ++ (e ∷ [])) (T-and-right (good b e) (inTurn good (b ++ (e ∷ [])) es) t) (omega arith))
 
 -- how many rows are laid out
 length-rows : (b : List Entry) → length (map rowOf (drop numberLines (namesIn b))) ≡ length b - numberLines
@@ -80,40 +66,27 @@ module _ (b : List Entry) (t : T (inTurn good [] b)) (h : numberLines ≤ length
       ∙ ap (λ (es : List Entry). namesIn es ++ namesIn (drop numberLines b)) (sym (alone-take numberLines [] b t (omega arith)))
 
   new-name : (name : List ℕ) → newName (length b - numberLines) (usersOf b) name ≡ (userId name && not (some-of (λ (other : List ℕ). same other name) (namesIn b)))
-  unfolding newName seatOfUser userId
-  new-name [] = refl
-  new-name (c ∷ cs) =
-      let p : List ℕ → Bool = λ row. same (nameOf row) (c ∷ cs) in
-      let q : List ℕ → Bool = λ other. same other (c ∷ cs) in
-      let l : isNone (first-place p (take (length b - numberLines) (usersOf b))) ≡ not (some-of q (namesIn (drop numberLines b))) =
-      ap (λ (rows : List (List ℕ)). isNone (first-place p rows)) rows-laid
-      ∙ isNone-first p (map rowOf (namesIn (drop numberLines b)))
-      ∙ ap not (some-of-rows (drop numberLines b) (take numberLines b) (c ∷ cs) (inTurn-drop good numberLines b t) (rw (length-take-le numberLines b h) (le-refl numberLines))) in
-      let r : some-of q (namesIn b) ≡ some-of q (namesIn (drop numberLines b)) =
-      ap (some-of q) names-split
-      ∙ some-of-append q (namesIn (map alone (take numberLines (numbersIn b)))) (namesIn (drop numberLines b))
-      ∙ ap (λ (x : Bool). x || some-of q (namesIn (drop numberLines b))) (some-of-alone (take numberLines (numbersIn b)) c cs) in
-      ap (λ (x : Bool). userId (c ∷ cs) && x) (l ∙ ap not (sym r))
+  new-name name =
+      let alones = namesIn (map alone (take numberLines (numbersIn b))) in
+      new-among (take numberLines (numbersIn b)) (length b - numberLines) (usersOf b) name
+      ∙ ap (λ (names : List (List ℕ)). userId name && not (some-of (λ (other : List ℕ). same other name) names))
+      (ap (λ (rows : List (List ℕ)). alones ++ map nameOf rows) rows-laid
+      ∙ ap (λ (names : List (List ℕ)). alones ++ names) (nameOf-rows (drop numberLines b) (take numberLines b) (inTurn-drop good numberLines b t) (rw (length-take-le numberLines b h) (le-refl numberLines)))
+      ∙ sym names-split)
 
 -- ---- a line judged against the arrays is judged against the entries
 
--- a name that the row has none of is good
-no-name : (b : List Entry) (s : List ℕ) → length b < numberLines → goodName (namesIn b) (entryAt b s .name) ≡ true
-unfolding goodName entryIn
-no-name b s h =
-    rw (length-namesIn b, row-unnamed (length b) h)
-
-pub seat-named : (b : List Entry) (name : List ℕ) → numberLines ≤ length b
-    → goodName (namesIn b) name ≡ (userId name && not (some-of (λ (other : List ℕ). same other name) (namesIn b)))
-unfolding goodName seatRow
-seat-named b name h = rw (length-namesIn b, rowAt-seat (length b) h)
+-- a line with a number alone shows no name
+name-none : (b : List Entry) (s : List ℕ) → length b < numberLines → entryAt b s .name ≡ []
+unfolding entryIn
+name-none b s h = rw (row-unnamed (length b) h)
 
 name-judged : (b : List Entry) (s : List ℕ) → T (inTurn good [] b)
     → pick (leb numberLines (length b)) (newName (length b - numberLines) (usersOf b) (entryAt b s .name)) true ≡ goodName (namesIn b) (entryAt b s .name)
 name-judged b s t =
     ⊎-elim
     (λ h. rw (le-leb numberLines (length b) h) (new-name b t h (entryAt b s .name) ∙ sym (seat-named b (entryAt b s .name) h)))
-    (λ h. rw (lt-leb numberLines (length b) h) (sym (no-name b s h)))
+    (λ h. rw (lt-leb numberLines (length b) h) (sym (ap (goodName (namesIn b)) (name-none b s h) ∙ no-name b h)))
     (le-or-lt numberLines (length b))
 
 abbrev pub room : ℕ
@@ -417,43 +390,30 @@ module _ {t numbers : List ℕ} {users : List (List ℕ)} {total at k : ℕ} (i 
 
 -- ---- what the pass gives
 
--- nineteen numbers, the last of them zeros, as a sheet
 drop-numbers : (ns : List ℕ) → numberLines ≤ length ns → drop 11 (padded room 0 ns) ≡ padded mostSeats 0 (drop numberLines ns)
 unfolding padded numberLines table mostSeats
 drop-numbers ns h =
     let l : 19 - length ns ≡ 8 - length (drop 11 ns) = let d = length-drop 11 ns in omega arith in
     drop-append-le 11 ns (replicate (19 - length ns) 0) h ∙ ap (λ (n : ℕ). drop 11 ns ++ replicate n 0) l
 
-layout-padded : (ns : List ℕ) → numberLines ≤ length ns → layoutOf (padded room 0 ns) ≡ sheetFrom ns
-unfolding layoutOf sheetFrom numberLines table mostSeats
-layout-padded ns h =
-    let p = getD-padded room 0 ns in
-    let q : drop 11 (padded room 0 ns) ≡ padded mostSeats 0 (drop numberLines ns) = drop-numbers ns h in
-    λ i. record {
-      server = p 0 i;
-      limit = p 1 i;
-      request = p 2 i;
-      response = p 3 i;
-      endrequest = p 4 i;
-      endresponse = p 5 i;
-      txend = p 6 i;
-      txendresponse = p 7 i;
-      ack = p 8 i;
-      resultid = p 9 i;
-      seats = p 10 i;
-      ssrcs = q i;
-    }
+-- zeros behind the numbers leave the sheet as it is
+sheetFrom-padded : (ns : List ℕ) → numberLines ≤ length ns → sheetFrom (padded room 0 ns) ≡ sheetFrom ns
+unfolding sheetFrom padded numberLines table mostSeats
+sheetFrom-padded ns h =
+    let l : length (ns ++ replicate (19 - length ns) 0) ≡ length ns + (19 - length ns) = simp (length-append, length-replicate) in
+    let d : length (drop 11 (padded room 0 ns)) ≡ length (padded room 0 ns) - 11 = length-drop 11 (padded room 0 ns) in
+    ap₂ sheetBy (fun-ext (getD-padded room 0 ns)) (padded-full 8 0 (drop 11 (padded room 0 ns)) (omega arith) ∙ drop-numbers ns h)
 
 module _ {t numbers : List ℕ} {users : List (List ℕ)} {total at k : ℕ} (i : Scanned t numbers users total at k) where
   pub scanned-refused : k < total → goodAt t at k numbers users ≡ false → readOf t ≡ readingOf (refused (k + 1))
   unfolding readOf
   scanned-refused h g = ap readingOf (scanned-bad i h g)
 
-  pub scanned-reading : total ≤ k → readOf t ≡ record { sheet = layoutOf numbers; used = at; refusal = noRefusal }
+  pub scanned-reading : total ≤ k → readOf t ≡ record { sheet = sheetFrom numbers; used = at; refusal = noRefusal }
   unfolding readOf readingOf sheetOf
   scanned-reading h =
       let ns = numbersIn (i .before) in
-      let l : layoutOf numbers ≡ sheetFrom ns = ap layoutOf (i .numbers-are) ∙ layout-padded ns (let m = length-numbersIn (i .before) in omega (arith, i .total-is, i .count)) in
+      let l : sheetFrom numbers ≡ sheetFrom ns = ap sheetFrom (i .numbers-are) ∙ sheetFrom-padded ns (let m = length-numbersIn (i .before) in omega (arith, i .total-is, i .count)) in
       ap readingOf (scanned-all i h) ∙ (λ j. record { sheet = sym l j; used = sym (i .place) j; refusal = noRefusal })
 
   pub scanned-users : total ≤ k → usersIn t ≡ users

@@ -4,7 +4,7 @@ use mathlib.Core.Bool.{not, _&&_}
 use mathlib.Core.List.{List, [], _∷_, _++_, map, append-nil}
 use Prim.Native.Nat.{ℕ, zero, suc, _+_, _-_, _≤_, _<_}
 use native.Mathlib.Omega.{arith}
-use lib.ListN.{length, take, drop, replicate, take-append-drop, length-append, length-drop}
+use lib.ListN.{length, getD, take, drop, replicate, take-append-drop, length-append, length-drop}
 use lib.Seq.{take-nil, length-take-le}
 use lib.Dec.{T, leb, eqb, leb→le}
 use borrow.Author.Tests.{ne-eqb}
@@ -17,15 +17,15 @@ use Rattle.sheet.specs.declared.Sheet.{Sheet}
 use Rattle.sheet.specs.Table.{table, seatRow, numberLines, seatsLine, mostSeats}
 use Rattle.sheet.specs.Line.{Entry, longestName, visible}
 use Rattle.sheet.specs.Judge.{numbersIn, namesIn, good, inTurn, whole, valid}
-use Rattle.sheet.specs.Value.{sheetFrom, sheetOf, rowOf, usersOf, numbersOf, nameOf, alone, seatEntries, entriesOf, sameRows, validWith}
-use Rattle.sheet.proofs.Rules.{row-unnamed, rowAt-seat}
-use Rattle.sheet.proofs.Judged.{good-shaped, inTurn-drop, length-numbersIn, seatsIn, whole-eq}
+use Rattle.sheet.specs.Value.{sheetBy, sheetFrom, sheetOf, rowOf, usersOf, numbersOf, nameOf, alone, seatEntries, entriesOf, sameRows, validWith}
+use Rattle.sheet.proofs.Laws.Rules.{row-unnamed, rowAt-seat}
+use Rattle.sheet.proofs.Laws.Entries.{good-shaped, inTurn-drop, length-numbersIn, seatsIn, whole-eq}
 
 -- ---- the lines with a number alone
 
 -- the numbers of a sheet that is laid out
 pub numbersOf-sheetFrom : (ns : List ℕ) → numberLines ≤ length ns → numbersOf (sheetFrom ns) ≡ take numberLines ns
-unfolding numbersOf sheetFrom numberLines table
+unfolding numbersOf sheetFrom sheetBy numberLines table
 numbersOf-sheetFrom ns h = listed-take 11 0 ns h
 
 nameless : (b : List Entry) (e : Entry) → T (good b e) → length b < numberLines → alone (e .number) ≡ e
@@ -88,7 +88,7 @@ unfolding valid
 valid-length es t = whole-eq (numbersIn es) (T-and-right (inTurn good [] es) (whole (numbersIn es)) t)
 
 laid-ssrcs : (es : List Entry) → T (valid es) → take (sheetOf es .seats) (sheetOf es .ssrcs) ≡ numbersIn (drop numberLines es)
-unfolding sheetOf sheetFrom padded seatsLine numberLines table
+unfolding sheetOf sheetFrom sheetBy padded seatsLine numberLines table
 laid-ssrcs es t =
     let ns = numbersIn es in
     let l : seatsIn ns ≡ length (drop numberLines ns) = let e = valid-length es t in omega (arith, length-drop numberLines ns) in
@@ -149,21 +149,8 @@ laid-valid es t =
 
 -- a struct's numbers, laid out with its SSRCs behind them, are the struct
 pub sheetFrom-numbers : (s : Sheet) (ns : List ℕ) → s .ssrcs ≡ sheetFrom (numbersOf s ++ ns) .ssrcs → sheetFrom (numbersOf s ++ ns) ≡ s
-unfolding sheetFrom numbersOf
-sheetFrom-numbers s ns p = λ i. record {
-  server = s .server;
-  limit = s .limit;
-  request = s .request;
-  response = s .response;
-  endrequest = s .endrequest;
-  endresponse = s .endresponse;
-  txend = s .txend;
-  txendresponse = s .txendresponse;
-  ack = s .ack;
-  resultid = s .resultid;
-  seats = s .seats;
-  ssrcs = sym p i;
-}
+unfolding sheetFrom sheetBy numbersOf
+sheetFrom-numbers s ns p = ap (sheetBy (λ (k : ℕ). getD (numbersOf s ++ ns) k 0)) (sym p)
 
 module _ (s : Sheet) (users : List (List ℕ)) (t : T (validWith s users)) where
   -- the entries that a valid value stands for

@@ -14,8 +14,8 @@ use Rattle.octets.proofs.Choice.{below, false-T, decide, le-or-lt, T-and, T-and
 use Rattle.sheet.specs.Table.{table, seatRow, numberLines, seatsLine, mostSeats, rowAt}
 use Rattle.sheet.specs.Line.{Entry, visible}
 use Rattle.sheet.specs.Judge.{numbersIn, namesIn, taken, goodNumber, goodName, userId, good, inTurn, whole, valid}
-use Rattle.sheet.proofs.Rules.{rowAt-seat}
-use Rattle.sheet.proofs.Judged.{inTurn-at, inTurn-snoc, good-numbers, length-numbersIn, length-namesIn, numbersIn-append, seatsIn, Open, eq-whole}
+use Rattle.sheet.proofs.Laws.Rules.{rowAt-seat}
+use Rattle.sheet.proofs.Laws.Entries.{inTurn-at, inTurn-snoc, good-numbers, length-numbersIn, length-namesIn, numbersIn-append, seatsIn, Open, eq-whole}
 
 -- ---- a list of n leaves one of n + 1 different things out
 

@@ -16,8 +16,8 @@ use Rattle.sheet.specs.Table.{rowAt}
 use Rattle.sheet.specs.Line.{Entry, lineOf, entryIn, textFrom, textOf}
 use Rattle.sheet.specs.Judge.{numbersIn, good, inTurn, whole, valid}
 use Rattle.sheet.specs.Reading.{reads, refused, goodLine, behind, readBy, outcome}
-use Rattle.sheet.proofs.Judged.{good-shaped, numbersIn-append, whole-front}
-use Rattle.sheet.proofs.Lines.{entry-line, line-pos}
+use Rattle.sheet.proofs.Laws.Entries.{good-shaped, numbersIn-append, whole-front}
+use Rattle.sheet.proofs.Laws.Lines.{entry-line, line-pos}
 
 -- ---- one line
 

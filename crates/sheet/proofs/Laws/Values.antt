@@ -12,23 +12,21 @@ use lib.Seq.{length-take-le, drop-cons, take-suc, take-all, take-take, getD-take
 use lib.Dec.{T, eqb, eqb→eq}
 use Rattle.octets.specs.Choice.{same, some-of}
 use Rattle.octets.specs.Buffer.{zerosFrom, padded}
-use Rattle.octets.proofs.Choice.{some-of-map, T-true, true-T, T-false, false-T, T-and, T-and-left, T-and-right, same-eq, eq-same, le-or-lt, some-of-append}
+use Rattle.octets.proofs.Choice.{T-true, true-T, T-false, false-T, T-and, T-and-left, T-and-right, same-eq, eq-same, le-or-lt}
 use Rattle.octets.proofs.Buffer.{zerosFrom-end, zerosFrom-step, getD-padded, length-padded, same-padded}
 use Rattle.octets.proofs.Lists.{map-take, getD-default}
 use Rattle.sheet.specs.declared.Sheet.{Sheet}
-use Rattle.sheet.specs.Table.{table, numberLines, seatsLine, mostSeats, rowAt}
+use Rattle.sheet.specs.Table.{table, numberLines, seatsLine, mostSeats}
 use Rattle.sheet.specs.Line.{Entry}
 use Rattle.sheet.specs.Judge.{numbersIn, namesIn, goodNumber, goodName, userId, good, inTurn, whole, valid}
-use Rattle.sheet.specs.Value.{sheetFrom, sheetOf, rowOf, usersOf, numbersOf, nameOf, alone, seatEntries, entriesOf, validWith, validAlone}
-use Rattle.sheet.specs.Find.{seatOfUser}
+use Rattle.sheet.specs.Value.{sheetBy, sheetFrom, sheetOf, rowOf, usersOf, numbersOf, nameOf, alone, seatEntries, entriesOf, validWith, validAlone}
 use Rattle.sheet.specs.Inner.{newName, goodRow}
-use Rattle.sheet.proofs.Rules.{row-unnamed}
-use Rattle.sheet.proofs.Judged.{eq-whole, length-numbersIn, length-namesIn, inTurn-at, good-name}
-use Rattle.sheet.proofs.Fresh.{seats-bound}
-use Rattle.sheet.proofs.SeatLaws.{take-nameOf, goodRow-unused, goodRow-used}
-use Rattle.sheet.proofs.Laid.{numbersIn-seats, nameOf-rowOf, valid-good, valid-entries, usersOf-entries, sheetFrom-numbers, laid-valid}
-use Rattle.sheet.proofs.Scanned.{isNone-first, some-of-alone, seat-named}
-use Rattle.sheet.proofs.Claims.{valid-alone-exactly}
+use Rattle.sheet.proofs.Laws.Entries.{eq-whole, length-numbersIn, inTurn-at, good-name}
+use Rattle.sheet.proofs.Laws.Fresh.{seats-bound}
+use Rattle.sheet.proofs.Laws.Rows.{take-nameOf, goodRow-unused, goodRow-used}
+use Rattle.sheet.proofs.Laws.Laid.{numbersIn-seats, nameOf-rowOf, valid-good, valid-entries, usersOf-entries, sheetFrom-numbers, laid-valid}
+use Rattle.sheet.proofs.Laws.Names.{no-name, seat-named, new-among}
+use Rattle.sheet.proofs.Laws.Claims.{valid-alone-exactly}
 
 -- ---- a struct's numbers, line by line
 
@@ -72,7 +70,7 @@ module _ (numbers : List ℕ) (lines k : ℕ) where
 -- all of it, where the seats are no more than eight
 pub restGood-all : (s : Sheet) → length (s .ssrcs) ≡ mostSeats → s .seats ≤ mostSeats
     → validAlone s ≡ restGood (numbersOf s ++ s .ssrcs) (numberLines + s .seats) 0
-unfolding restGood validAlone numbersOf sheetFrom numberLines seatsLine table zerosFrom
+unfolding restGood validAlone numbersOf sheetFrom sheetBy numberLines seatsLine table zerosFrom
 restGood-all s eight h =
     let xs = take (s .seats) (s .ssrcs) in
     let l : length xs ≡ s .seats = length-take-le (s .seats) (s .ssrcs) (omega arith) in
@@ -92,17 +90,6 @@ few-seats s t =
 -- a struct with more seats is no sheet's
 pub many-seats : (s : Sheet) → mostSeats < s .seats → validAlone s ≡ false
 many-seats s h = T-false (validAlone s) (λ t. let b : s .seats ≤ mostSeats = few-seats s t in omega arith)
-
--- ---- a name is new among the rows exactly if it is new among the names in them
-
--- the lines with a number alone before them have no name
-new-among : (ns : List ℕ) (i : ℕ) (users : List (List ℕ)) (name : List ℕ)
-    → newName i users name ≡ (userId name && not (some-of (λ (other : List ℕ). same other name) (namesIn (map alone ns) ++ map nameOf (take i users))))
-unfolding newName seatOfUser userId
-new-among ns i users [] = refl
-new-among ns i users (c ∷ cs) =
-    let q : List ℕ → Bool = λ other. same other (c ∷ cs) in
-    rw (some-of-append q (namesIn (map alone ns)) (map nameOf (take i users)), some-of-alone ns c cs, some-of-map q nameOf (take i users), isNone-first (λ (row : List ℕ). same (nameOf row) (c ∷ cs)) (take i users))
 
 -- ---- a row is good exactly if a name is laid out in it, none where no seat is, and the name is new
 
@@ -168,13 +155,6 @@ unfolding seatEntries
 names-seats [] us = refl
 names-seats (x ∷ xs) [] = refl
 names-seats (x ∷ xs) (u ∷ us) = ap (λ (l : List (List ℕ)). nameOf u ∷ l) (names-seats xs us)
-
--- no name is good on a line with a number alone
-no-name : (b : List Entry) → length b < numberLines → goodName (namesIn b) [] ≡ true
-unfolding goodName
-no-name b h =
-    let n : rowAt (length b) .named ≡ false = row-unnamed (length b) h in
-    rw (length-namesIn b, n)
 
 -- each good behind those before it, so all in turn
 at-inTurn : {A : Type 0} (p : List A → A → Bool) (d : A) (b xs : List A) → ((k : ℕ) → k < length xs → T (p (b ++ take k xs) (getD xs k d)))

@@ -1,0 +1,15 @@
+pub mod Rules
+pub mod Entries
+pub mod Fresh
+pub mod Lines
+pub mod LineAt
+pub mod Numbers
+pub mod Rows
+pub mod Readings
+pub mod Names
+pub mod Laid
+pub mod Named
+pub mod Judgement
+pub mod Scanned
+pub mod Claims
+pub mod Values
