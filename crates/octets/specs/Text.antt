@@ -24,13 +24,14 @@ valueFrom a (c ∷ cs) = valueFrom (a * 10 + (c - 48)) cs
 abbrev pub valueOf : List ℕ → ℕ
 valueOf cs = valueFrom 0 cs
 
--- a number's digits, of which there are no more than the first argument allows
+-- a number's digits, as far as the first argument allows for them
 unfoldable pub decimalBy : ℕ → ℕ → List ℕ
 decimalBy zero n = []
 decimalBy (suc f) n =
     elim (ltb n 10) [ true ↦ (48 + n) ∷ [] | false ↦ decimalBy f (n / 10) ++ ((48 + n % 10) ∷ []) ]
 
--- a number in decimal, without leading zeros
+-- A number in decimal, without leading zeros. Below 10 it is one digit, and else the digits of a tenth of it and then its last
+-- (`decimal-small` and `decimal-large` of proofs/): how many digits are allowed for is of no account.
 unfoldable pub decimal : ℕ → List ℕ
 unfolding decimalBy
 decimal n = decimalBy (suc n) n

@@ -45,7 +45,7 @@ unfoldable pub inTurn {ℓ} : {A : Type ℓ} → (List A → A → Bool) → Lis
 inTurn p before [] = true
 inTurn p before (x ∷ xs) = p before x && inTurn p (before ++ (x ∷ [])) xs
 
--- as many seats as the line seats says
+-- as many seats as the line seats says: "seats (1 to 8), then that many lines"
 unfoldable pub whole : List ℕ → Bool
 whole ns = eqb (length ns) (numberLines + getD ns seatsLine 0)
 

@@ -27,14 +27,15 @@ behind before s =
     let r = rowAt (length before) in
     drop (length (lineOf r (entryIn r s))) s
 
--- the lines behind those of the entries before; the first argument bounds how many more are read
+-- The lines behind those of the entries before: a whole sheet is read; else the next line is good and the reading goes on
+-- behind it, or it is named. The first argument bounds how many more lines are read.
 unfoldable pub readBy : ℕ → List Entry → List ℕ → Outcome
 readBy zero before s = pick (whole (numbersIn before)) (reads before) (refused (length before + 1))
 readBy (suc f) before s =
     let more = readBy f (before ++ (entryIn (rowAt (length before)) s ∷ [])) (behind before s) in
     pick (whole (numbersIn before)) (reads before) (pick (goodLine before s) more (refused (length before + 1)))
 
--- a text has no more lines than octets
+-- a text has no more lines than octets, so that the bound is never met
 unfoldable pub outcome : List ℕ → Outcome
 outcome t = readBy (length t) [] t
 
@@ -45,6 +46,7 @@ unfoldable pub firstLine : List ℕ → List ℕ
 firstLine [] = []
 firstLine (c ∷ cs) = pick (eqb c lf) (c ∷ []) (c ∷ firstLine cs)
 
+-- the first k lines
 unfoldable pub lines : ℕ → List ℕ → List (List ℕ)
 lines zero t = []
 lines (suc k) t = firstLine t ∷ lines k (drop (length (firstLine t)) t)

@@ -46,11 +46,13 @@ sheetOf es = sheetFrom (numbersIn es)
 unfoldable pub rowOf : List ℕ → List ℕ
 rowOf name = padded longestName 0 name
 
+-- "eight rows of 60 octets, unused octets zero"
 unfoldable pub usersOf : List Entry → List (List ℕ)
 usersOf es = padded mostSeats (rowOf []) (map rowOf (drop numberLines (namesIn es)))
 
 -- ---- the entries that a value stands for
 
+-- the numbers in the order of the lines
 unfoldable pub numbersOf : Sheet → List ℕ
 numbersOf s =
     s .server
@@ -70,9 +72,11 @@ numbersOf s =
 unfoldable pub nameOf : List ℕ → List ℕ
 nameOf row = front (λ (c : ℕ). not (eqb c 0)) row
 
+-- a line with a number alone
 abbrev pub alone : ℕ → Entry
 alone n = record { number = n; name = [] }
 
+-- a seat for each SSRC and its row
 unfoldable pub seatEntries : List ℕ → List (List ℕ) → List Entry
 seatEntries [] users = []
 seatEntries (n ∷ ns) [] = []
@@ -95,7 +99,7 @@ validWith s users =
     let es = entriesOf s users in
     valid es && (same (s .ssrcs) (sheetOf es .ssrcs) && sameRows users (usersOf es))
 
--- the numbers alone
+-- the same of the numbers and the SSRCs, whatever the User IDs are
 unfoldable pub validAlone : Sheet → Bool
 validAlone s =
     let ns = numbersOf s ++ take (s .seats) (s .ssrcs) in
@@ -115,6 +119,7 @@ unfoldable pub readingOf : Outcome → Reading
 readingOf (reads es) = record { sheet = sheetOf es; used = length (textOf es); refusal = noRefusal }
 readingOf (refused k) = record { sheet = sheetOf []; used = 0; refusal = badLine k }
 
+-- the User IDs, likewise
 unfoldable pub usersFrom : Outcome → List (List ℕ)
 usersFrom (reads es) = usersOf es
 usersFrom (refused k) = usersOf []

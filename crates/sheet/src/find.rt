@@ -1,8 +1,12 @@
 // Whose SSRC and whose User ID it is, among the seats on the sheet alone.
 use super::Found;
 use super::Senders;
+use super::Users;
 use super::seat::has_name;
 ghost use Rattle.sheet.specs.Promises.{by-ssrc≡, by-user≡};
+
+// The most seats that a sheet has.
+const SEATS: u8 = 8;
 
 // The seat on the sheet with this SSRC.
 pub fn by_ssrc(senders: Senders, ssrc: u32) -> Found
@@ -11,7 +15,7 @@ pub fn by_ssrc(senders: Senders, ssrc: u32) -> Found
     let seats = senders.seats;
     let ssrcs = senders.ssrcs;
     let mut s: u8 = 0;
-    while s < 8 {
+    while s < SEATS {
         if seats <= (s as u32) {
             return Found::Nobody;
         }
@@ -25,12 +29,12 @@ pub fn by_ssrc(senders: Senders, ssrc: u32) -> Found
 }
 
 // The seat on the sheet with this User ID.
-pub fn by_user(seats: u32, users: &[[u8; 60]; 8], name: &[u8]) -> Found
+pub fn by_user(seats: u32, users: &Users, name: &[u8]) -> Found
     ensures { λ r. ⌜ by-user≡ seats (now (users .entry)) (now (name .entry)) r ⌝ }
 {
     let rows = &users[..];
     let mut s: u8 = 0;
-    while s < 8 {
+    while s < SEATS {
         if seats <= (s as u32) {
             return Found::Nobody;
         }

@@ -25,6 +25,9 @@ pub struct Sheet {
     pub ssrcs: [u32; 8],
 }
 
+// The User IDs of eight seats, 60 octets each; unused octets are zero.
+pub type Users = [[u8; 60]; 8];
+
 // Document 01's number of a refusal, 0 where there is none, and its place: the line for 12, else 0.
 pub struct Refusal {
     pub number: u32,
@@ -50,6 +53,9 @@ pub enum Found {
     Nobody,
 }
 
+// The most seats that a sheet has.
+const SEATS: u32 = 8;
+
 // Reads a sheet from the front of a text: the value and the octets used, or 12 with the first bad or missing line.
 pub fn read(text: &[u8]) -> Reading
     ensures { λ r. ⌜ read≡ (now (text .entry)) r ⌝ }
@@ -59,7 +65,7 @@ pub fn read(text: &[u8]) -> Reading
 }
 
 // The User IDs of the sheet at the front of a text; all zeros where the sheet is refused.
-pub fn users(text: &[u8]) -> [[u8; 60]; 8]
+pub fn users(text: &[u8]) -> Users
     ensures { λ r. ⌜ users≡ (now (text .entry)) r ⌝ }
 {
     let mut users = [[0u8; 60]; 8];
@@ -76,13 +82,13 @@ pub fn valid(sheet: Sheet) -> bool
     ensures { λ r. ⌜ valid≡ sheet r ⌝ }
 {
     let seats = sheet.seats;
-    if 8 < seats {
+    if SEATS < seats {
         return false;
     }
     let numbers = number::numbers_of(sheet);
     let lines = table::NUMBER_LINES + (seats as usize);
     let mut k = 0;
-    while k < 19 {
+    while k < table::LINES {
         let n = numbers[k];
         if k < lines {
             if !number::is_good_number(&numbers, k, n as u64) {
@@ -97,7 +103,7 @@ pub fn valid(sheet: Sheet) -> bool
 }
 
 // Whether some sheet reads to this struct and these User IDs.
-pub fn valid_with(sheet: Sheet, users: &[[u8; 60]; 8]) -> bool
+pub fn valid_with(sheet: Sheet, users: &Users) -> bool
     ensures { λ r. ⌜ valid-with≡ sheet (now (users .entry)) r ⌝ }
 {
     if !valid(sheet) {

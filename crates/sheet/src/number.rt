@@ -1,5 +1,6 @@
 // The numbers of a sheet's lines: the table's bounds and families (document 01, "Call sheet").
 use super::Sheet;
+use super::table::Numbers;
 use super::table::rule_of;
 ghost use mathlib.Core.Path.{_≡_};
 ghost use Prim.Native.Nat.{_<_};
@@ -26,7 +27,7 @@ fn is_taken(earlier: &[u32], family: u8, n: u32) -> bool
 }
 
 // Whether a number may stand on line k behind the first k of these.
-pub fn is_good_number(numbers: &[u32; 19], k: usize, n: u64) -> bool
+pub fn is_good_number(numbers: &Numbers, k: usize, n: u64) -> bool
     requires { ⌜ k < 19 ⌝ }
     ensures { λ r. ⌜ r ≡ goodNumber (take k (now (numbers .entry))) n ⌝ }
 {
@@ -43,7 +44,7 @@ pub fn is_good_number(numbers: &[u32; 19], k: usize, n: u64) -> bool
 }
 
 // A sheet's numbers in the order of its lines, and the eight SSRCs behind them.
-pub fn numbers_of(sheet: Sheet) -> [u32; 19]
+pub fn numbers_of(sheet: Sheet) -> Numbers
     ensures { λ r. ⌜ r ≡ numbersOf sheet ++ sheet .ssrcs ⌝ }
 {
     let s = sheet.ssrcs;

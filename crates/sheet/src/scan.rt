@@ -2,12 +2,15 @@
 use super::Reading;
 use super::Refusal;
 use super::Sheet;
+use super::Users;
 use super::line::Line;
 use super::line::line_at;
 use super::number::is_good_number;
 use super::seat::is_new_name;
 use super::seat::keep;
+use super::table::LINES;
 use super::table::NUMBER_LINES;
+use super::table::Numbers;
 ghost use mathlib.Core.Path.{_≡_};
 ghost use Prim.Native.Nat.{_<_, _≤_};
 ghost use mathlib.Core.List.{[]};
@@ -17,7 +20,7 @@ ghost use Rattle.sheet.specs.Reading.{Outcome};
 ghost use Rattle.sheet.specs.Value.{sheetFrom, usersOf, readOf, readingOf, usersIn};
 
 // The line at a place as line k, judged against the numbers and the User IDs of the lines before it.
-fn judged(text: &[u8], at: usize, k: usize, numbers: &[u32; 19], users: &[[u8; 60]; 8]) -> Line
+fn judged(text: &[u8], at: usize, k: usize, numbers: &Numbers, users: &Users) -> Line
     requires { ⌜ (k < 19) × (at ≤ length (now text)) ⌝ }
     ensures { λ r. ⌜ JudgedIs (now (text .entry)) at k (now (numbers .entry)) (now (users .entry)) r ⌝ }
 {
@@ -41,7 +44,7 @@ fn judged(text: &[u8], at: usize, k: usize, numbers: &[u32; 19], users: &[[u8; 6
 }
 
 // The sheet with these numbers in the order of its lines, and the SSRCs behind them.
-fn sheet_of(n: [u32; 19]) -> Sheet
+fn sheet_of(n: Numbers) -> Sheet
     ensures { λ r. ⌜ r ≡ sheetFrom n ⌝ }
 {
     Sheet {
@@ -65,7 +68,7 @@ fn refused(k: usize) -> Reading
     ensures { λ r. ⌜ r ≡ readingOf (Outcome.refused k) ⌝ }
 {
     Reading {
-        sheet: sheet_of([0u32; 19]),
+        sheet: sheet_of([0u32; LINES]),
         used: 0,
         refusal: Refusal {
             number: 12,
@@ -75,11 +78,11 @@ fn refused(k: usize) -> Reading
 }
 
 // Reads the sheet at the front of a text, and puts its User IDs into users, whose octets are all zero before.
-pub fn scan(text: &[u8], users: &mut [[u8; 60]; 8]) -> Reading
+pub fn scan(text: &[u8], users: &mut Users) -> Reading
     requires { ⌜ now users ≡ usersOf [] ⌝ }
     ensures { λ r. ⌜ (r ≡ readOf (now (text .entry))) × (r .refusal .number ≡ 0 → now (users .exit) ≡ usersIn (now (text .entry))) ⌝ }
 {
-    let mut numbers = [0u32; 19];
+    let mut numbers = [0u32; LINES];
     let mut lines = NUMBER_LINES;
     let mut at = 0;
     let mut k = 0;

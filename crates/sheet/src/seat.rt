@@ -1,5 +1,6 @@
 // The User IDs of the seats, at fixed width: a row holds a User ID and then zeros (document 01, "Call sheet").
 use super::Found;
+use super::Users;
 use super::find::by_user;
 use super::user::is_user_id;
 ghost use mathlib.Core.Path.{_≡_};
@@ -56,7 +57,7 @@ fn zeros_from(row: &[u8], at: usize) -> bool
 }
 
 // Whether a name can be a User ID and none of the first seats has it.
-pub fn is_new_name(users: &[[u8; 60]; 8], seats: u32, name: &[u8]) -> bool
+pub fn is_new_name(users: &Users, seats: u32, name: &[u8]) -> bool
     ensures { λ r. ⌜ r ≡ newName seats (now (users .entry)) (now (name .entry)) ⌝ }
 {
     if !is_user_id(name) {
@@ -70,7 +71,7 @@ pub fn is_new_name(users: &[[u8; 60]; 8], seats: u32, name: &[u8]) -> bool
 }
 
 // Whether row s is as it has to be under so many seats: a new name and zeros, or zeros alone.
-pub fn is_good_row(users: &[[u8; 60]; 8], s: usize, seats: u32) -> bool
+pub fn is_good_row(users: &Users, s: usize, seats: u32) -> bool
     requires { ⌜ s < 8 ⌝ }
     ensures { λ r. ⌜ r ≡ goodRow seats (now (users .entry)) s ⌝ }
 {

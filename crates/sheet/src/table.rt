@@ -18,6 +18,12 @@ pub struct Row(pub usize, pub usize, pub u64, pub u64, pub u8, pub bool);
 // How many lines have a number alone. The row behind theirs is that of a seat's line.
 pub const NUMBER_LINES: usize = 11;
 
+// How many lines the longest sheet has, with eight seats.
+pub const LINES: usize = 19;
+
+// The numbers of its lines, in order.
+pub type Numbers = [u32; 19];
+
 pub const KEYS: [u8; 97] =
     *b"server=limit=request=response=endrequest=endresponse=txend=txendresponse=ack=resultid=seats=seat=";
 
