@@ -15,9 +15,9 @@ fn is_taken(earlier: &[u32], family: u8, n: u32) -> bool
 {
     let mut j = 0;
     while j < earlier.len() {
-        let rule = rule_of(j);
-        if rule.family == family {
-            if earlier[j] == n {
+        if earlier[j] == n {
+            let rule = rule_of(j);
+            if rule.family == family {
                 return true;
             }
         }

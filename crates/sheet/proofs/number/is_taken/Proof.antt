@@ -20,22 +20,23 @@ abbrev μ-loop : tie.MeasureT-loop
 loop-holds : tie.Need-loop-holds Inv-loop μ-loop
 loop-holds c = refl
 
+mul-if1 : tie.Need-mul-if1 Inv-loop μ-loop
+mul-if1 c = search needs
+
+shared-slice-read-if1 : tie.Need-shared-slice-read-if1 Inv-loop μ-loop
+shared-slice-read-if1 c = search needs
+
 rule-of-requires : tie.Need-rule-of-requires Inv-loop μ-loop
 rule-of-requires c κs = search needs
 
-mul-if2 : tie.Need-mul-if2 Inv-loop μ-loop
-mul-if2 c = search needs
-
-shared-slice-read-if2 : tie.Need-shared-slice-read-if2 Inv-loop μ-loop
-shared-slice-read-if2 c = search needs
-
 returns : tie.Need-returns Inv-loop μ-loop
 returns c =
-    let in-loop = c .before .before .before .before .before in
+    let here = c .before .before .before in
+    let in-loop = here .before .before in
     let l = in-loop .before .loop in
     let a = in-loop .before .before .before .args in
-    let p = sym (c .before .before .before .before .rule-of .ensures .family) ∙ c .before .before .if1 .taken in
-    sym (l .inv ∙ taken-here (a .family) (a .n) (a .earlier .now) (l .j) (in-loop .loop-test .taken) p (c .if2 .taken))
+    let p = sym (c .before .before .rule-of .ensures .family) ∙ c .if2 .taken in
+    sym (l .inv ∙ taken-here (a .family) (a .n) (a .earlier .now) (l .j) (in-loop .loop-test .taken) p (here .if1 .taken))
 
 add-j : tie.Need-add-j Inv-loop μ-loop
 add-j c = omega arith
@@ -45,12 +46,12 @@ loop-less c = omega arith
 
 loop-again : tie.Need-loop-again Inv-loop μ-loop
 loop-again c =
-    let in-loop = c .before .before .before in
+    let in-loop = c .before .before in
     let l = in-loop .before .loop in
     let a = in-loop .before .before .before .args in
     l .inv
     ∙ taken-skip (a .family) (a .n) (a .earlier .now) (l .j) (in-loop .loop-test .taken)
-    (λ p q. ⊎-elim (λ w. w .2 .left q) (λ w. w .left (c .before .before .rule-of .ensures .family ∙ p)) (c .if1 .came))
+    (λ p q. ⊎-elim (λ w. w .3 .left (w .1 .ensures .family ∙ p)) (λ w. w .left q) (c .if1 .came))
 
 returns-2 : tie.Need-returns-2 Inv-loop μ-loop
 returns-2 c =
@@ -64,9 +65,9 @@ is-taken-spec =
     Inv-loop
     μ-loop
     loop-holds
+    mul-if1
+    shared-slice-read-if1
     rule-of-requires
-    mul-if2
-    shared-slice-read-if2
     returns
     add-j
     loop-less
