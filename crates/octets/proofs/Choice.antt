@@ -160,6 +160,7 @@ abbrev pub allBelow : ℕ → (ℕ → Bool) → Bool
 allBelow zero p = true
 allBelow (suc n) p = p n && allBelow n p
 
+-- so the test holds at each of them
 pub below : (n : ℕ) (p : ℕ → Bool) → T (allBelow n p) → (k : ℕ) → k < n → T (p k)
 below zero p t k l = absurd (not-suc-le-zero l)
 below (suc n) p t k l =
@@ -286,6 +287,7 @@ module _ {ℓ} {A : Type ℓ} (p : A → Bool) where
   some-of-false (x ∷ xs) d h =
       rw (h zero (zero-lt-suc (length xs)), some-of-false xs d (λ i l. h (suc i) (suc-le-suc l)))
 
+-- of two lists, in one or the other
 pub some-of-append : {A : Type 0} (p : A → Bool) (xs ys : List A) → some-of p (xs ++ ys) ≡ (some-of p xs || some-of p ys)
 some-of-append p [] ys = refl
 some-of-append p (x ∷ xs) ys = rw (some-of-append p xs ys) (sym (or-assoc (p x) (some-of p xs) (some-of p ys)))

@@ -14,6 +14,7 @@ abbrev pub listed : ℕ → ℕ → List ℕ → List ℕ
 listed zero at l = []
 listed (suc n) at l = getD l at 0 ∷ listed n (suc at) l
 
+-- they are so many of what is left from the place on
 pub listed-take : (n at : ℕ) (l : List ℕ) → at + n ≤ length l → listed n at l ≡ take n (drop at l)
 listed-take zero at l h = refl
 listed-take (suc n) at l h = rw (drop-cons l at 0 (omega arith), listed-take n (suc at) l (omega arith))
@@ -32,16 +33,19 @@ getD-default (x ∷ l) (suc i) d e h = getD-default l i d e (le-of-suc-le-suc h)
 
 -- ---- map, take, drop, replicate
 
+-- dropping and mapping, in either order
 pub map-drop : {A B : Type 0} (f : A → B) (n : ℕ) (xs : List A) → drop n (map f xs) ≡ map f (drop n xs)
 map-drop f zero xs = refl
 map-drop f (suc n) [] = refl
 map-drop f (suc n) (x ∷ xs) = map-drop f n xs
 
+-- taking and mapping, in either order
 pub map-take : {A B : Type 0} (f : A → B) (n : ℕ) (xs : List A) → map f (take n xs) ≡ take n (map f xs)
 map-take f zero xs = refl
 map-take f (suc n) [] = refl
 map-take f (suc n) (x ∷ xs) = ap (λ (ys : List _). f x ∷ ys) (map-take f n xs)
 
+-- what is left of a repeat
 pub drop-replicate : {A : Type 0} (n m : ℕ) (a : A) → drop n (replicate m a) ≡ replicate (m - n) a
 drop-replicate zero m a = ap (λ (k : ℕ). replicate k a) (sym (sub-zero m))
 drop-replicate (suc n) zero a = ap (λ (k : ℕ). replicate k a) (sym (zero-sub (suc n)))

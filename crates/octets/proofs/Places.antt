@@ -71,13 +71,16 @@ module _ (p : ℕ → Bool) where
       (λ e. rw (eqb·zero-suc, e))
 
   module _ (t : List ℕ) (a e : ℕ) (ends : e ≡ a + length (front p (drop a t))) where
+    -- the octets from the place to the end are the front
     pub take-front-between : take (e - a) (drop a t) ≡ front p (drop a t)
     take-front-between =
         let n : e - a ≡ length (front p (drop a t)) = omega arith in
         rw n (take-front (drop a t))
 
+    -- behind the front the text goes on at its end
     pub drop-front-end : drop (length (front p (drop a t))) (drop a t) ≡ drop e t
     drop-front-end = rw (drop-drop, ends)
 
+    -- the end is in the text
     pub front-end-le : a ≤ length t → e ≤ length t
     front-end-le h = omega (arith, rw length-drop at (length-front-le p (drop a t)))

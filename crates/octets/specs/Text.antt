@@ -36,7 +36,7 @@ unfoldable pub decimal : ℕ → List ℕ
 unfolding decimalBy
 decimal n = decimalBy (suc n) n
 
--- digits, not none of them, "without leading zeros"
+-- not empty, and where it is longer than one octet, not begun with 0: "without leading zeros"
 abbrev pub plain : List ℕ → Bool
 plain [] = false
 plain (c ∷ []) = true

@@ -3,6 +3,7 @@ ghost use mathlib.Core.Path.{_≡_};
 ghost use lib.ListN.{getD};
 ghost use Rattle.octets.specs.Promises.{u16-at≡, u32-at≡, put-u16≡, put-u32≡};
 
+// The octet at a place, or 0 past the end.
 fn octet_at(s: &[u8], at: usize) -> u8
     ensures { λ r. ⌜ r ≡ getD (now (s .entry)) at 0 ⌝ }
 {

@@ -41,7 +41,7 @@ outcome t = readBy (length t) [] t
 
 -- ---- the lines of any text
 
--- a line: "what stands up to and with its LF", or what is left without one
+-- a line: what stands up to and with its LF, or what is left without one, even if that is nothing
 unfoldable pub firstLine : List ℕ → List ℕ
 firstLine [] = []
 firstLine (c ∷ cs) = pick (eqb c lf) (c ∷ []) (c ∷ firstLine cs)

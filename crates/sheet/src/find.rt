@@ -1,12 +1,13 @@
 // Whose SSRC and whose User ID it is, among the seats on the sheet alone.
 use super::Found;
+use super::SEATS;
 use super::Senders;
 use super::Users;
 use super::seat::has_name;
 ghost use Rattle.sheet.specs.Promises.{by-ssrc≡, by-user≡};
 
-// The most seats that a sheet has.
-const SEATS: u8 = 8;
+// Seats count from 0 up to this.
+const END: u8 = SEATS as u8;
 
 // The seat on the sheet with this SSRC.
 pub fn by_ssrc(senders: Senders, ssrc: u32) -> Found
@@ -15,7 +16,7 @@ pub fn by_ssrc(senders: Senders, ssrc: u32) -> Found
     let seats = senders.seats;
     let ssrcs = senders.ssrcs;
     let mut s: u8 = 0;
-    while s < SEATS {
+    while s < END {
         if seats <= (s as u32) {
             return Found::Nobody;
         }
@@ -34,7 +35,7 @@ pub fn by_user(seats: u32, users: &Users, name: &[u8]) -> Found
 {
     let rows = &users[..];
     let mut s: u8 = 0;
-    while s < SEATS {
+    while s < END {
         if seats <= (s as u32) {
             return Found::Nobody;
         }

@@ -22,11 +22,18 @@ pub struct Sheet {
     pub ack: u32,
     pub resultid: u32,
     pub seats: u32,
-    pub ssrcs: [u32; 8],
+    pub ssrcs: [u32; SEATS],
 }
 
+// The most seats that a sheet has, and the most octets of a User ID.
+const SEATS: usize = 8;
+
+const WIDTH: usize = 60;
+
+const MOST_SEATS: u32 = SEATS as u32;
+
 // The User IDs of eight seats, 60 octets each; unused octets are zero.
-pub type Users = [[u8; 60]; 8];
+pub type Users = [[u8; WIDTH]; SEATS];
 
 // Document 01's number of a refusal, 0 where there is none, and its place: the line for 12, else 0.
 pub struct Refusal {
@@ -44,7 +51,7 @@ pub struct Reading {
 // What a search by SSRC looks at.
 pub struct Senders {
     pub seats: u32,
-    pub ssrcs: [u32; 8],
+    pub ssrcs: [u32; SEATS],
 }
 
 // The seat that was looked for, counted from 0.
@@ -53,14 +60,11 @@ pub enum Found {
     Nobody,
 }
 
-// The most seats that a sheet has.
-const SEATS: u32 = 8;
-
 // Reads a sheet from the front of a text: the value and the octets used, or 12 with the first bad or missing line.
 pub fn read(text: &[u8]) -> Reading
     ensures { λ r. ⌜ read≡ (now (text .entry)) r ⌝ }
 {
-    let mut users = [[0u8; 60]; 8];
+    let mut users = [[0u8; WIDTH]; SEATS];
     scan::scan(text, &mut users)
 }
 
@@ -68,13 +72,13 @@ pub fn read(text: &[u8]) -> Reading
 pub fn users(text: &[u8]) -> Users
     ensures { λ r. ⌜ users≡ (now (text .entry)) r ⌝ }
 {
-    let mut users = [[0u8; 60]; 8];
+    let mut users = [[0u8; WIDTH]; SEATS];
     let reading = scan::scan(text, &mut users);
     let refusal = reading.refusal;
     if refusal.number == 0 {
         return users;
     }
-    [[0u8; 60]; 8]
+    [[0u8; WIDTH]; SEATS]
 }
 
 // Whether some sheet reads to this struct.
@@ -82,7 +86,7 @@ pub fn valid(sheet: Sheet) -> bool
     ensures { λ r. ⌜ valid≡ sheet r ⌝ }
 {
     let seats = sheet.seats;
-    if SEATS < seats {
+    if MOST_SEATS < seats {
         return false;
     }
     let numbers = number::numbers_of(sheet);

@@ -10,7 +10,7 @@ ghost use Rattle.octets.specs.Choice.{begins, front};
 ghost use Rattle.octets.specs.Text.{digit, valueOf, plain};
 ghost use Rattle.sheet.specs.Table.{rowAt};
 ghost use Rattle.sheet.specs.Line.{visible};
-ghost use Rattle.sheet.specs.Inner.{keys, LineIs, TailIs};
+ghost use Rattle.sheet.specs.Inner.{cap, keys, LineIs, TailIs};
 
 // Numbers are told apart as far as this; every number that a line may have is below it.
 const CAP: u64 = 4294967296;
@@ -27,12 +27,14 @@ pub enum Line {
     Bad,
 }
 
-pub struct Decimal {
-    pub number: u64,
-    pub end: usize,
+// Digits that were found: the number that they make, as far as CAP, and where they end.
+struct Decimal {
+    number: u64,
+    end: usize,
 }
 
-pub enum Rest {
+// What was found behind a number: the place of the User ID and that of the LF; or that it is not right.
+enum Rest {
     Good { name: usize, end: usize },
     Bad,
 }
@@ -68,6 +70,7 @@ fn has_key(text: &[u8], at: usize, rule: Rule) -> bool
     stands_at(text, at, &octets[from..end])
 }
 
+// "decimal": 0 to 9.
 fn is_digit(c: u8) -> bool
     ensures { λ r. ⌜ r ≡ digit c ⌝ }
 {
@@ -77,7 +80,7 @@ fn is_digit(c: u8) -> bool
 // The number that the digits at a place make, as far as CAP, and where they end.
 fn digits(text: &[u8], at: usize) -> Decimal
     ensures { λ r. ⌜ (r .end ≡ at + length (front digit (drop at (now (text .entry)))))
-        × (r .number ≡ min (valueOf (front digit (drop at (now (text .entry))))) 4294967296) ⌝ }
+        × (r .number ≡ min (valueOf (front digit (drop at (now (text .entry))))) cap) ⌝ }
 {
     let mut number: u64 = 0;
     let mut i = at;
@@ -107,6 +110,7 @@ fn is_plain(text: &[u8], at: usize, end: usize) -> bool
     text[at] != b'0'
 }
 
+// Whether an octet stands at a place.
 fn is_at(text: &[u8], at: usize, c: u8) -> bool
     ensures { λ r. ⌜ r ≡ begins (c ∷ []) (drop at (now (text .entry))) ⌝ }
 {
@@ -117,6 +121,7 @@ fn is_at(text: &[u8], at: usize, c: u8) -> bool
     }
 }
 
+// "each 0x21 to 0x7E".
 fn is_visible(c: u8) -> bool
     ensures { λ r. ⌜ r ≡ visible c ⌝ }
 {

@@ -63,6 +63,7 @@ fn sheet_of(n: Numbers) -> Sheet
     }
 }
 
+// 12 with line k, beside zeros.
 fn refused(k: usize) -> Reading
     requires { ⌜ k ≤ 19 ⌝ }
     ensures { λ r. ⌜ r ≡ readingOf (Outcome.refused k) ⌝ }

@@ -1,4 +1,6 @@
-// The lines of a sheet, as a table (document 01, "Call sheet"). A later line with a number is a row more.
+// The lines of a sheet, as a table (document 01, "Call sheet"). A later line with a number is a row more, its key at the end of
+// KEYS, so that no other row moves.
+use super::SEATS;
 ghost use Rattle.sheet.specs.Inner.{RuleOf};
 
 // Where a line's key begins in KEYS, and where it ends; the least and the greatest number on the line; its family, of which
@@ -13,16 +15,16 @@ pub struct Rule {
 }
 
 // A rule as a row of the table.
-pub struct Row(pub usize, pub usize, pub u64, pub u64, pub u8, pub bool);
+struct Row(usize, usize, u64, u64, u8, bool);
 
 // How many lines have a number alone. The row behind theirs is that of a seat's line.
 pub const NUMBER_LINES: usize = 11;
 
-// How many lines the longest sheet has, with eight seats.
-pub const LINES: usize = 19;
+// How many lines the longest sheet has.
+pub const LINES: usize = NUMBER_LINES + SEATS;
 
 // The numbers of its lines, in order.
-pub type Numbers = [u32; 19];
+pub type Numbers = [u32; LINES];
 
 pub const KEYS: [u8; 97] =
     *b"server=limit=request=response=endrequest=endresponse=txend=txendresponse=ack=resultid=seats=seat=";

@@ -1,4 +1,5 @@
 // User IDs (document 01, "Packet": "1 to 60 octets, each 0x21 to 0x7E").
+use super::WIDTH;
 use super::line::visible_end;
 ghost use Rattle.sheet.specs.Promises.{is-user-id≡};
 
@@ -9,7 +10,7 @@ pub fn is_user_id(name: &[u8]) -> bool
     if name.len() < 1 {
         return false;
     }
-    if 60 < name.len() {
+    if WIDTH < name.len() {
         return false;
     }
     visible_end(name, 0) == name.len()

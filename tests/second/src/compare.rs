@@ -1,10 +1,11 @@
 //! Compares the proved program's answers with the second program's, and counts what the cases were.
 
+use crate::sheet::{KEYS, SEATS};
 use crate::wire::{self, Answer, Case};
 use std::collections::BTreeMap;
 
 /// The last line of the longest sheet.
-const LAST_LINE: u32 = 19;
+const LAST_LINE: u32 = (KEYS.len() + SEATS) as u32;
 const SHOWN: usize = 5;
 
 #[derive(Default)]

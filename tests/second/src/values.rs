@@ -126,7 +126,15 @@ fn sheet_to_search(random: &mut Random) -> Sheet {
         1 if seats == SEATS => *random.pick(&[9, 255, 256, 257, 1 << 31, u32::MAX]),
         _ => seats as u32,
     };
-    but(&sheet, |sheet| sheet.set("seats", other))
+    let (from, to) = (random.below(seats), random.below(seats));
+    let alike = random.below(4) == 0;
+    but(&sheet, |sheet| {
+        sheet.set("seats", other);
+        if alike {
+            sheet.ssrcs[to] = sheet.ssrcs[from];
+            sheet.users[to] = sheet.users[from];
+        }
+    })
 }
 
 /// One search of many in a sheet.
@@ -150,6 +158,11 @@ pub fn systematic_searches(random: &mut Random) -> Vec<Case> {
         let sheet = but(&good::longest(), |sheet| sheet.set("seats", more));
         cases.extend(searches(random, &sheet));
     }
+    let alike = but(&good::longest(), |sheet| {
+        sheet.ssrcs[SEATS - 1] = sheet.ssrcs[0];
+        sheet.users[SEATS - 1] = sheet.users[0];
+    });
+    cases.extend(searches(random, &alike));
     cases
 }
 

@@ -24,7 +24,7 @@ use Rattle.sheet.proofs.Laws.Entries.{numbersIn-append, length-namesIn,
 use Rattle.sheet.proofs.Laws.Fresh.{fresh-name, seats-bound, completed, many}
 use Rattle.sheet.proofs.Laws.Lines.{textFrom-append}
 use Rattle.sheet.proofs.Laws.Readings.{outcome-reads, reads-outcome}
-use Rattle.sheet.proofs.Laws.Laid.{numbersIn-seats, sheetFrom-numbers, valid-length, entriesOf-laid, laid-valid, valid-entries, sheetOf-entries, usersOf-entries}
+use Rattle.sheet.proofs.Laws.Laid.{numbersIn-entriesOf, valid-good, numbersIn-seats, sheetFrom-numbers, valid-length, entriesOf-laid, laid-valid, valid-entries, sheetOf-entries, usersOf-entries}
 use Rattle.sheet.proofs.Laws.Named.{none-begins, some-begins, lines-front}
 
 -- ---- which texts read
@@ -61,9 +61,11 @@ module _ (s : Sheet) (users : List (List ℕ)) (n : ℕ) where
         ap usersFrom o ∙ usersOf-entries s users (w .0),
       )
 
+-- which texts read
 pub reads-exactly : ReadsExactly
 reads-exactly t s users n = (λ r. reads-valid s users n t r, λ w. valid-reads s users n t w)
 
+-- which values some text reads to
 pub valid-exactly : ValidExactly
 valid-exactly s users = (
   λ v. (valueText s users, length (valueText s users), valid-reads s users (length (valueText s users)) (valueText s users) (v, refl, take-all (length (valueText s users)) (valueText s users) (le-refl (length (valueText s users))))),
@@ -83,7 +85,7 @@ module _ (t : List ℕ) (k : ℕ) (p : outcome t ≡ refused k) where
   none-has w =
       let es = entriesOf (w .0) (w .1) in
       let v : T (valid es) = valid-entries (w .0) (w .1) (w .2) in
-      none-begins (length t) [] t k k es p (sym (zero-add k)) (T-and-left (inTurn good [] es) (whole (numbersIn es)) v)
+      none-begins (length t) [] t k k es p (sym (zero-add k)) (valid-good es v)
       (T-and-right (inTurn good [] es) (whole (numbersIn es)) v) (le-refl (length t)) (w .3)
 
   some-has : (j : ℕ) → j < k → SomeBegins t j
@@ -105,8 +107,8 @@ module _ (t : List ℕ) (k : ℕ) (p : outcome t ≡ refused k) where
       )
 
 -- a text that some sheet is the front of is not refused
-read-on : (t : List ℕ) (k : ℕ) → readOf t .refusal ≡ badLine k → NoneReads t
-read-on t k p s users v e =
+refused-none : (t : List ℕ) (k : ℕ) → readOf t .refusal ≡ badLine k → NoneReads t
+refused-none t k p s users v e =
     let r = valid-reads s users (length (valueText s users)) t (v, refl, e) in
     let z : _≡_ {A = ℕ} 12 0 = ap (λ (x : Refusal). x .number) (sym p ∙ ap (λ (x : Reading). x .refusal) (r .0)) in
     omega arith
@@ -126,10 +128,11 @@ least-line t k none never before (refused i) p =
     (λ h. absurd (none-has t i p (before i h)))
     (le-or-lt k i))
 
+-- which line is named
 pub named-exactly : NamedExactly
 unfolding readOf
 named-exactly t k = (
-  λ p. let o = refused-by (outcome t) k p in (read-on t k p, none-has t k o, some-has t k o),
+  λ p. let o = refused-by (outcome t) k p in (refused-none t k p, none-has t k o, some-has t k o),
   λ w. least-line t k (w .0) (w .1) (w .2) (outcome t) refl,
 )
 
@@ -187,18 +190,19 @@ module _ (s : Sheet) (users : List (List ℕ)) (t : T (validWith s users)) where
       let l : length (numbersIn (entriesOf s users)) ≡ numberLines + seatsIn (numbersIn (entriesOf s users)) = valid-length (entriesOf s users) (valid-entries s users t) in
       let m : length xs ≡ min (s .seats) (length (s .ssrcs)) = length-take (s .seats) (s .ssrcs) in
       let h : length xs ≤ length users = omega arith in
-      ap (λ (ns : List ℕ). numbersOf s ++ ns) (numbersIn-seats xs users ∙ take-all (length users) xs h)
+      numbersIn-entriesOf s users h
 
-  users-alone : T (validAlone s)
+  alone-valid : T (validAlone s)
   unfolding validAlone valid sheetOf
-  users-alone =
+  alone-valid =
       let es = entriesOf s users in
       let v : T (valid es) = valid-entries s users t in
-      let g : T (inTurn goodNumber [] (numbers s)) = rw numbers-entries at (good-numbers [] es (T-and-left (inTurn good [] es) (whole (numbersIn es)) v)) in
+      let g : T (inTurn goodNumber [] (numbers s)) = rw numbers-entries at (good-numbers [] es (valid-good es v)) in
       let w : T (whole (numbers s)) = rw numbers-entries at (T-and-right (inTurn good [] es) (whole (numbersIn es)) v) in
       let p : s .ssrcs ≡ sheetFrom (numbers s) .ssrcs = ap (λ (x : Sheet). x .ssrcs) (sym (sheetOf-entries s users t) ∙ ap sheetFrom numbers-entries) in
       T-and (inTurn goodNumber [] (numbers s)) (whole (numbers s) && same (s .ssrcs) (sheetFrom (numbers s) .ssrcs)) g
       (T-and (whole (numbers s)) (same (s .ssrcs) (sheetFrom (numbers s) .ssrcs)) w (eq-same (s .ssrcs) (sheetFrom (numbers s) .ssrcs) p))
 
+-- which structs some User IDs go with
 pub valid-alone-exactly : ValidAloneExactly
-valid-alone-exactly s = (λ t. some-users s t, λ w. users-alone s (w .0) (w .1))
+valid-alone-exactly s = (λ t. some-users s t, λ w. alone-valid s (w .0) (w .1))

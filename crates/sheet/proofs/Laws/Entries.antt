@@ -3,7 +3,8 @@ use mathlib.Core.Path.{_≡_, sym, subst}
 use mathlib.Core.Logic.{_⊎_, inl, inr, ⊎-elim}
 use mathlib.Core.Bool.{Bool, true, false, _&&_, and-assoc}
 use mathlib.Core.List.{List, [], _∷_, _++_, map, append-nil, append-assoc, map-append}
-use Prim.Native.Nat.{ℕ, suc, _+_, _≤_, _<_}
+use Prim.Native.Nat.{ℕ, suc, _+_, _≤_, _<_, zero, suc-le-suc}
+use native.Mathlib.Nat.{zero-lt-suc}
 use native.Mathlib.Omega.{arith}
 use lib.ListN.{length, getD, take, drop, take-append-drop, length-append, length-map, List·getD-append, List·getD-eq-default}
 use lib.Seq.{drop-cons}
@@ -18,6 +19,7 @@ use Rattle.sheet.specs.Judge.{numbersIn, namesIn, goodNumber, goodName, 
 -- ---- inTurn: each good behind those before it
 
 module _ {A : Type 0} (p : List A → A → Bool) where
+  -- of two lists, the second behind the first
   pub inTurn-append : (b xs ys : List A) → inTurn p b (xs ++ ys) ≡ (inTurn p b xs && inTurn p (b ++ xs) ys)
   unfolding inTurn
   inTurn-append b [] ys = rw (append-nil b)
@@ -25,6 +27,7 @@ module _ {A : Type 0} (p : List A → A → Bool) where
       rw (inTurn-append (b ++ (x ∷ [])) xs ys, append-assoc b (x ∷ []) xs)
       (sym (and-assoc (p b x) (inTurn p (b ++ (x ∷ [])) xs) (inTurn p (b ++ (x ∷ xs)) ys)))
 
+  -- one more, good behind the others
   pub inTurn-snoc : (b : List A) (x : A) → T (inTurn p [] b) → T (p b x) → T (inTurn p [] (b ++ (x ∷ [])))
   unfolding inTurn
   inTurn-snoc b x t g = rw (inTurn-append [] b (x ∷ [])) (T-and (inTurn p [] b) (p b x && true) t (T-and (p b x) true g tt))
@@ -35,11 +38,21 @@ module _ {A : Type 0} (p : List A → A → Bool) where
       T-and-right (inTurn p [] (take k xs)) (inTurn p (take k xs) (drop k xs))
       (rw (inTurn-append [] (take k xs) (drop k xs)) at (subst (λ (ys : List A). T (inTurn p [] ys)) (sym (take-append-drop k xs)) t))
 
+  -- each is good behind those before it
   pub inTurn-at : (xs : List A) (k : ℕ) (d : A) → T (inTurn p [] xs) → k < length xs → T (p (take k xs) (getD xs k d))
   unfolding inTurn
   inTurn-at xs k d t h =
       let g : T (inTurn p (take k xs) (getD xs k d ∷ drop (suc k) xs)) = rw (drop-cons xs k d h) at (inTurn-drop k xs t) in
       T-and-left (p (take k xs) (getD xs k d)) (inTurn p (take k xs ++ (getD xs k d ∷ [])) (drop (suc k) xs)) g
+
+-- each good behind those before it, so all in turn
+pub at-inTurn : {A : Type 0} (p : List A → A → Bool) (d : A) (b xs : List A) → ((k : ℕ) → k < length xs → T (p (b ++ take k xs) (getD xs k d)))
+    → T (inTurn p b xs)
+unfolding inTurn
+at-inTurn p d b [] h = tt
+at-inTurn p d b (x ∷ xs) h =
+    T-and (p b x) (inTurn p (b ++ (x ∷ [])) xs) (rw (append-nil b) at (h zero (zero-lt-suc (length xs))))
+    (at-inTurn p d (b ++ (x ∷ [])) xs (λ k l. rw (append-assoc b (x ∷ []) (take k xs)) (h (suc k) (suc-le-suc l))))
 
 -- what is good by one test is good by another, that looks at a part of each
 pub inTurn-map : {A B : Type 0} (p : List A → A → Bool) (q : List B → B → Bool) (f : A → B)
@@ -53,9 +66,11 @@ inTurn-map p q f h b (x ∷ xs) t =
 
 -- ---- whole: as many seats as the line seats says
 
+-- an entry has one number
 pub length-numbersIn : (es : List Entry) → length (numbersIn es) ≡ length es
 length-numbersIn es = length-map es (λ (e : Entry). e .number)
 
+-- the numbers of two lists
 pub numbersIn-append : (xs ys : List Entry) → numbersIn (xs ++ ys) ≡ numbersIn xs ++ numbersIn ys
 numbersIn-append xs ys = map-append (λ (e : Entry). e .number) xs ys
 
@@ -67,14 +82,17 @@ seatsIn ns = getD ns seatsLine 0
 abbrev pub Open : List ℕ → Type 0
 Open ns = length ns ≤ numberLines + seatsIn ns
 
+-- a whole sheet has the lines that it says
 pub whole-eq : (ns : List ℕ) → T (whole ns) → length ns ≡ numberLines + seatsIn ns
 unfolding whole
 whole-eq ns t = eqb→eq (length ns) (numberLines + seatsIn ns) t
 
+-- a sheet with the lines that it says is whole
 pub eq-whole : (ns : List ℕ) → length ns ≡ numberLines + seatsIn ns → T (whole ns)
 unfolding whole
 eq-whole ns e = true-T (whole ns) (eq-eqb (length ns) (numberLines + seatsIn ns) e)
 
+-- one that is not whole has not
 pub not-whole : (ns : List ℕ) → whole ns ≡ false → length ns ≡ numberLines + seatsIn ns → ⊥
 unfolding whole
 not-whole ns e = eqb-false (length ns) (numberLines + seatsIn ns) e
@@ -102,10 +120,12 @@ whole-front ns m ms t =
 
 -- ---- good: the number's part and the name's
 
+-- its number is good
 pub good-number : (b : List Entry) (e : Entry) → T (good b e) → T (goodNumber (numbersIn b) (e .number))
 unfolding good
 good-number b e t = T-and-left (goodNumber (numbersIn b) (e .number)) (goodName (namesIn b) (e .name)) t
 
+-- its name is good
 pub good-name : (b : List Entry) (e : Entry) → T (good b e) → T (goodName (namesIn b) (e .name))
 unfolding good
 good-name b e t = T-and-right (goodNumber (numbersIn b) (e .number)) (goodName (namesIn b) (e .name)) t
@@ -119,9 +139,11 @@ unfolding userId
 shape-of true name q t = search (T-and-left, T-and-right)
 shape-of false name q t = t
 
+-- an entry has one name
 pub length-namesIn : (es : List Entry) → length (namesIn es) ≡ length es
 length-namesIn es = length-map es (λ (e : Entry). e .name)
 
+-- a good name can stand on its line
 pub good-shaped : (b : List Entry) (e : Entry) → T (good b e) → T (shaped (rowAt (length b)) (e .name))
 unfolding goodName
 good-shaped b e t =

@@ -134,16 +134,17 @@ unfolding roomy seatRow
 roomy-seat k l h =
     rw (rowAt-seat k l) (le→leb (0 + kin 7 0 k) 4294967295 (let b : kin 7 0 k ≤ k = kin-le 7 0 k in omega arith))
 
-room : (k : ℕ) → k ≤ many → T (roomy k)
-room k h = ⊎-elim (λ l. roomy-seat k l h) (λ l. roomy-table k l) (le-or-lt numberLines k)
+roomy-at : (k : ℕ) → k ≤ many → T (roomy k)
+roomy-at k h = ⊎-elim (λ l. roomy-seat k l h) (λ l. roomy-table k l) (le-or-lt numberLines k)
 
+-- a good number for the next line
 pub fresh-number : (ns : List ℕ) → length ns ≤ many → (n : ℕ) × T (goodNumber ns n)
 unfolding goodNumber roomy holds
 fresh-number ns h =
     let r = rowAt (length ns) in
     let w = free {A = ℕ} eqb eqb-refl eqb→eq (λ (j : ℕ). r .least + j) (λ i j q. omega arith) (ofFamily (r .family) 0 ns) in
     let b : r .least + kin (r .family) 0 (length ns) ≤ r .greatest =
-    leb→le (r .least + kin (r .family) 0 (length ns)) (r .greatest) (room (length ns) h) in
+    leb→le (r .least + kin (r .family) 0 (length ns)) (r .greatest) (roomy-at (length ns) h) in
     let l : length (ofFamily (r .family) 0 ns) ≡ kin (r .family) 0 (length ns) = length-ofFamily (r .family) 0 ns in
     let f : taken (r .family) (r .least + w .0) 0 ns ≡ false = taken-family (r .family) (r .least + w .0) 0 ns ∙ w .2 in (
       r .least + w .0,
@@ -166,24 +167,26 @@ letter-id : (j : ℕ) → j ≤ many → T (userId ((33 + j) ∷ []))
 unfolding userId
 letter-id j h = T-and (visible (33 + j)) true (visible-letter j h) tt
 
-name-by : (b : Bool) (names : List (List ℕ)) → length names ≤ many
+name-for : (b : Bool) (names : List (List ℕ)) → length names ≤ many
     → (name : List ℕ) × T (pick b (userId name && not (some-of (λ (other : List ℕ). same other name) names)) (same name []))
 unfolding holds
-name-by true names h =
+name-for true names h =
     let w = free {A = List ℕ} same same-refl same-eq (λ (j : ℕ). (33 + j) ∷ []) one-letter names in (
       (33 + w .0) ∷ [],
       T-and (userId ((33 + w .0) ∷ [])) (not (some-of (λ (other : List ℕ). same other ((33 + w .0) ∷ [])) names))
           (letter-id (w .0) (omega (arith, w .1)))
           (rw (w .2) tt),
     )
-name-by false names h = ([], tt)
+name-for false names h = ([], tt)
 
+-- a good name for the next line
 pub fresh-name : (names : List (List ℕ)) → length names ≤ many → (name : List ℕ) × T (goodName names name)
 unfolding goodName
-fresh-name names h = name-by (rowAt (length names) .named) names h
+fresh-name names h = name-for (rowAt (length names) .named) names h
 
 -- ---- a front of a sheet goes on to a whole one
 
+-- a good entry for the next line
 pub fresh-entry : (b : List Entry) → length b ≤ many → (e : Entry) × T (good b e)
 unfolding good
 fresh-entry b h =

@@ -29,6 +29,7 @@ goodNumber-cap ns n =
     (le-or-lt cap n)
 
 module _ (t : List ℕ) (at k : ℕ) (numbers : List ℕ) (users : List (List ℕ)) where
+  -- no line is found
   pub judged-no-line : LineIs t at (rowAt k) Bad → JudgedIs t at k numbers users Bad
   unfolding LineIs JudgedIs goodAt
   judged-no-line l = rw l
@@ -43,6 +44,7 @@ module _ (t : List ℕ) (at k : ℕ) (numbers : List ℕ) (users : List (List �
     unfolding LineIs
     number-judged = ap (goodNumber (take k numbers)) (l .1) ∙ goodNumber-cap (take k numbers) (entryIn (rowAt k) (drop at t) .number)
 
+    -- its number is not good
     pub judged-no-number : goodNumber (take k numbers) n ≡ false → JudgedIs t at k numbers users Bad
     unfolding JudgedIs goodAt
     judged-no-number g = rw (found, sym number-judged ∙ g)
@@ -67,10 +69,12 @@ module _ (t : List ℕ) (at k : ℕ) (numbers : List ℕ) (users : List (List �
 
       -- on a seat's line
       module _ (h : numberLines ≤ k) where
+        -- its name is new
         pub judged-seat : newName (k - numberLines) users (entryIn (rowAt k) (drop at t) .name) ≡ true → JudgedIs t at k numbers users (Good n a e)
         unfolding goodAt
         judged-seat m = judged-found (rw (found, sym number-judged ∙ g, le-leb numberLines k h, m) tt)
 
+        -- its name is not
         pub judged-no-seat : newName (k - numberLines) users (entryIn (rowAt k) (drop at t) .name) ≡ false → JudgedIs t at k numbers users Bad
         unfolding JudgedIs goodAt
         judged-no-seat m = rw (found, sym number-judged ∙ g, le-leb numberLines k h, m)

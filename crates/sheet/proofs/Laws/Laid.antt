@@ -5,7 +5,7 @@ use mathlib.Core.List.{List, [], _∷_, _++_, map, append-nil}
 use Prim.Native.Nat.{ℕ, zero, suc, _+_, _-_, _≤_, _<_}
 use native.Mathlib.Omega.{arith}
 use lib.ListN.{length, getD, take, drop, replicate, take-append-drop, length-append, length-drop}
-use lib.Seq.{take-nil, length-take-le}
+use lib.Seq.{take-all, take-nil, length-take-le}
 use lib.Dec.{T, leb, eqb, leb→le}
 use borrow.Author.Tests.{ne-eqb}
 use Rattle.octets.specs.Choice.{same, every, front}
@@ -34,6 +34,7 @@ nameless b e g h =
     let m : e .name ≡ [] = same-eq (e .name) [] s in
     λ i. record { number = e .number; name = sym m i }
 
+-- the first lines are their numbers alone
 pub alone-take : (m : ℕ) (b es : List Entry) → T (inTurn good b es) → length b + m ≤ numberLines → map alone (take m (numbersIn es)) ≡ take m es
 unfolding inTurn
 alone-take zero b es t h = refl
@@ -61,6 +62,7 @@ pub nameOf-rowOf : (name : List ℕ) → T (every visible name) → nameOf (rowO
 unfolding nameOf rowOf padded
 nameOf-rowOf name t = front-zeros name (longestName - length name) (every-weaker visible (λ (c : ℕ). not (eqb c 0)) not-zero name t)
 
+-- a good name on a seat's line is visible
 pub seat-name : (b : List Entry) (e : Entry) → T (good b e) → numberLines ≤ length b → T (every visible (e .name))
 unfolding seatRow
 seat-name b e g h = rw (rowAt-seat (length b) h) at (good-shaped b e g)
@@ -78,11 +80,12 @@ seatEntries-laid (e ∷ es) b us t h =
 
 -- ---- the whole sheet
 
--- a valid sheet has its lines with a number alone, and as many seats as it says
+-- the entries of a valid sheet are good
 pub valid-good : (es : List Entry) → T (valid es) → T (inTurn good [] es)
 unfolding valid
 valid-good es t = T-and-left (inTurn good [] es) (whole (numbersIn es)) t
 
+-- and as many as its line seats says
 pub valid-length : (es : List Entry) → T (valid es) → length (numbersIn es) ≡ numberLines + seatsIn (numbersIn es)
 unfolding valid
 valid-length es t = whole-eq (numbersIn es) (T-and-right (inTurn good [] es) (whole (numbersIn es)) t)
@@ -110,6 +113,21 @@ numbersIn-seats [] us = sym (take-nil (length us))
 numbersIn-seats (x ∷ xs) [] = refl
 numbersIn-seats (x ∷ xs) (u ∷ us) = ap (λ (l : List ℕ). x ∷ l) (numbersIn-seats xs us)
 
+-- the User IDs of the seats, as far as there are rows
+pub namesIn-seats : (xs : List ℕ) (us : List (List ℕ)) → namesIn (seatEntries xs us) ≡ map nameOf (take (length xs) us)
+unfolding seatEntries
+namesIn-seats [] us = refl
+namesIn-seats (x ∷ xs) [] = refl
+namesIn-seats (x ∷ xs) (u ∷ us) = ap (λ (l : List (List ℕ)). nameOf u ∷ l) (namesIn-seats xs us)
+
+-- the numbers of the entries that a value stands for, where no row is missing
+pub numbersIn-entriesOf : (s : Sheet) (users : List (List ℕ)) → length (take (s .seats) (s .ssrcs)) ≤ length users
+    → numbersIn (entriesOf s users) ≡ numbersOf s ++ take (s .seats) (s .ssrcs)
+unfolding entriesOf numbersOf
+numbersIn-entriesOf s users h =
+    let xs = take (s .seats) (s .ssrcs) in
+    ap (λ (ns : List ℕ). numbersOf s ++ ns) (numbersIn-seats xs users ∙ take-all (length users) xs h)
+
 -- the entries that a laid-out sheet stands for
 pub entriesOf-laid : (es : List Entry) → T (valid es) → entriesOf (sheetOf es) (usersOf es) ≡ es
 unfolding entriesOf sheetOf
@@ -126,11 +144,13 @@ entriesOf-laid es t =
 
 -- ---- which values are a sheet's
 
+-- rows are the same as themselves
 pub sameRows-refl : (xs : List (List ℕ)) → T (sameRows xs xs)
 unfolding sameRows
 sameRows-refl [] = tt
 sameRows-refl (x ∷ xs) = T-and (same x x) (sameRows xs xs) (same-refl x) (sameRows-refl xs)
 
+-- the same rows are equal
 pub sameRows-eq : (xs ys : List (List ℕ)) → T (sameRows xs ys) → xs ≡ ys
 unfolding sameRows
 sameRows-eq [] [] t = refl
@@ -161,6 +181,7 @@ module _ (s : Sheet) (users : List (List ℕ)) (t : T (validWith s users)) where
   unfolding validWith
   laid-same = T-and-right (valid entries) (same (s .ssrcs) (sheetOf entries .ssrcs) && sameRows users (usersOf entries)) t
 
+  -- the entries are a sheet's
   pub valid-entries : T (valid (entriesOf s users))
   unfolding validWith
   valid-entries = T-and-left (valid entries) (same (s .ssrcs) (sheetOf entries .ssrcs) && sameRows users (usersOf entries)) t
@@ -172,6 +193,7 @@ module _ (s : Sheet) (users : List (List ℕ)) (t : T (validWith s users)) where
       sheetFrom-numbers s (numbersIn (seatEntries (take (s .seats) (s .ssrcs)) users))
       (same-eq (s .ssrcs) (sheetOf entries .ssrcs) (T-and-left (same (s .ssrcs) (sheetOf entries .ssrcs)) (sameRows users (usersOf entries)) laid-same))
 
+  -- and the rows likewise
   pub usersOf-entries : usersOf (entriesOf s users) ≡ users
   usersOf-entries =
       sym (sameRows-eq users (usersOf entries) (T-and-right (same (s .ssrcs) (sheetOf entries .ssrcs)) (sameRows users (usersOf entries)) laid-same))

@@ -22,6 +22,7 @@ use Rattle.sheet.specs.Inner.{cap, tailName, TailIs, LineIs}
 -- ---- what follows a number on a line with a number alone: LF
 
 module _ (t : List ℕ) (at : ℕ) (r : Row) (alone : r .named ≡ false) where
+  -- LF stands there
   pub tail-lf : begins (lf ∷ []) (drop at t) ≡ true → TailIs t at r (GoodTail at at)
   unfolding TailIs tailOf
   tail-lf b =
@@ -30,6 +31,7 @@ module _ (t : List ℕ) (at : ℕ) (r : Row) (alone : r .named ≡ false) where
       let none : at - at ≡ 0 = omega arith in
       rw alone (found, record { from = omega arith; within = omega arith; octets = rw none }, refl)
 
+  -- it does not
   pub tail-no-lf : begins (lf ∷ []) (drop at t) ≡ false → TailIs t at r BadTail
   unfolding TailIs tailOf
   tail-no-lf b = rw alone b
@@ -53,14 +55,17 @@ module _ (t : List ℕ) (at e : ℕ) (r : Row) (seat : r .named ≡ true) (ends 
   unfolding tailOf
   length-seat-tail = rw (seat, drop-drop 1 at t) (omega (arith, length-append (front visible (drop (at + 1) t)) (lf ∷ [])))
 
+  -- no comma
   pub tail-no-comma : begins (comma ∷ []) (drop at t) ≡ false → TailIs t at r BadTail
   unfolding TailIs
   tail-no-comma b = rw (begins-seat-tail, b)
 
+  -- no LF where the User ID ends
   pub tail-no-end : begins (lf ∷ []) (drop e t) ≡ false → TailIs t at r BadTail
   unfolding TailIs
   tail-no-end b = rw (begins-seat-tail, b, and-false)
 
+  -- both
   pub tail-seat : begins (comma ∷ []) (drop at t) ≡ true → begins (lf ∷ []) (drop e t) ≡ true → TailIs t at r (GoodTail (at + 1) e)
   unfolding TailIs
   tail-seat b d =
@@ -89,10 +94,12 @@ module _ (t : List ℕ) (at start end : ℕ) (r : Row) (starts : start ≡ at + 
   after-key : drop (length (r .key)) (drop at t) ≡ drop start t
   after-key = rw (drop-drop, starts)
 
+  -- the entry's number is the digits'
   pub entry-number : entryIn r (drop at t) .number ≡ valueOf (front digit (drop start t))
   unfolding entryIn digitsAfter
   entry-number = rw after-key
 
+  -- the entry's name stands behind them
   pub entry-name : entryIn r (drop at t) .name ≡ tailName r (drop end t)
   unfolding entryIn nameAfter digitsAfter
   entry-name =
@@ -100,6 +107,7 @@ module _ (t : List ℕ) (at start end : ℕ) (r : Row) (starts : start ≡ at + 
       let places : at + behind ≡ end + 1 = omega arith in
       rw (after-key, drop-drop behind at t, places, drop-drop 1 end t)
 
+  -- the text begins with the entry's line exactly if key, digits and tail are right
   pub begins-line : begins (lineOf r (entryIn r (drop at t))) (drop at t)
       ≡ (begins (r .key) (drop at t) && (plain (front digit (drop start t)) && begins (tailOf r (tailName r (drop end t))) (drop end t)))
   unfolding lineOf
@@ -109,6 +117,7 @@ module _ (t : List ℕ) (at start end : ℕ) (r : Row) (starts : start ≡ at + 
       rw (entry-number, entry-name, begins-of-append (r .key) (decimal n ++ tailOf r name) (drop at t))
       (rw (after-key, begins-number r name (drop start t), drop-front-end digit t start end ends))
 
+  -- the line ends where its tail does
   pub length-line : T (plain (front digit (drop start t)))
       → at + length (lineOf r (entryIn r (drop at t))) ≡ end + length (tailOf r (tailName r (drop end t)))
   unfolding lineOf
@@ -118,18 +127,22 @@ module _ (t : List ℕ) (at start end : ℕ) (r : Row) (starts : start ≡ at + 
       rw (entry-number, entry-name, decimal-value ds (every-front digit (drop start t)) p)
       (omega (arith, length-append (r .key) (ds ++ tail), length-append ds tail))
 
+  -- no key
   pub line-no-key : begins (r .key) (drop at t) ≡ false → LineIs t at r Bad
   unfolding LineIs
   line-no-key b = rw (begins-line, b)
 
+  -- no digits, or a leading zero
   pub line-not-plain : plain (front digit (drop start t)) ≡ false → LineIs t at r Bad
   unfolding LineIs
   line-not-plain p = rw (begins-line, p, and-false)
 
+  -- a tail that is not right
   pub line-bad-tail : TailIs t end r BadTail → LineIs t at r Bad
   unfolding LineIs TailIs
   line-bad-tail b = rw (begins-line, b, and-false, and-false)
 
+  -- all three right
   pub line-good : (n a e : ℕ) → begins (r .key) (drop at t) ≡ true → n ≡ min (valueOf (front digit (drop start t))) cap
       → plain (front digit (drop start t)) ≡ true → TailIs t end r (GoodTail a e) → LineIs t at r (Good n a e)
   unfolding LineIs TailIs

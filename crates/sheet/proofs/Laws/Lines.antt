@@ -32,6 +32,7 @@ stops-by : (b : Bool) (name : List ℕ) → Stops (pick b (comma ∷ name ++ (lf
 stops-by true name = record { stop = comma; rest = name ++ (lf ∷ []); is = refl; no-digit = refl }
 stops-by false name = record { stop = lf; rest = []; is = refl; no-digit = refl }
 
+-- so it is behind every number
 pub tail-stops : (r : Row) (name : List ℕ) → Stops (tailOf r name)
 unfolding tailOf
 tail-stops r name = stops-by (r .named) name
@@ -41,6 +42,7 @@ line-parts : (r : Row) (e : Entry) (u : List ℕ) → lineOf r e ++ u ≡ r .key
 unfolding lineOf
 line-parts r e u = simp append-assoc
 
+-- the digits on an entry's line are its number's
 pub digits-line : (r : Row) (e : Entry) (u : List ℕ) → digitsAfter r (lineOf r e ++ u) ≡ decimal (e .number)
 unfolding digitsAfter
 digits-line r e u =
@@ -126,6 +128,7 @@ unfolding firstLine
 firstLine-split [] = refl
 firstLine-split (c ∷ cs) = split-by (eqb c lf) c cs (firstLine cs) (firstLine-split cs)
 
+-- the lines of a text that begins with a line
 pub lines-line : (j k : ℕ) (e : Entry) (u : List ℕ) → T (shaped (rowAt k) (e .name))
     → lines (suc j) (lineOf (rowAt k) e ++ u) ≡ lineOf (rowAt k) e ∷ lines j u
 unfolding lines
@@ -140,12 +143,14 @@ line-pos r e =
 
 -- ---- the text of several lines
 
+-- the text of two lists of entries
 pub textFrom-append : (k : ℕ) (xs ys : List Entry) → textFrom k (xs ++ ys) ≡ textFrom k xs ++ textFrom (k + length xs) ys
 unfolding textFrom
 textFrom-append k [] ys = rw (add-zero k)
 textFrom-append k (x ∷ xs) ys =
     rw (textFrom-append (suc k) xs ys, suc-add k (length xs), add-suc k (length xs)) (sym (append-assoc (lineOf (rowAt k) x) (textFrom (suc k) xs) (textFrom (suc (k + length xs)) ys)))
 
+-- one line more is as much longer
 pub length-textOf-snoc : (b : List Entry) (e : Entry) → length (textOf (b ++ (e ∷ []))) ≡ length (textOf b) + length (lineOf (rowAt (length b)) e)
 unfolding textOf textFrom
 length-textOf-snoc b e =

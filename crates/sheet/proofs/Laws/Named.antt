@@ -15,7 +15,7 @@ use Rattle.sheet.specs.Judge.{numbersIn, good, inTurn, whole}
 use Rattle.sheet.specs.Reading.{refused, goodLine, behind, readBy, firstLine, lines}
 use Rattle.sheet.proofs.Laws.Entries.{inTurn-snoc, good-shaped, numbersIn-append, Open, open-more, whole-front}
 use Rattle.sheet.proofs.Laws.Lines.{firstLine-split, lines-line, line-pos}
-use Rattle.sheet.proofs.Laws.Readings.{entryAt, goodLine-good, goodLine-split, readBy-whole, readBy-none, readBy-bad, readBy-good, length-snoc, read-line}
+use Rattle.sheet.proofs.Laws.Readings.{text-more, entryAt, goodLine-good, readBy-whole, readBy-none, readBy-bad, readBy-good, length-snoc, read-line}
 
 -- ---- a refusal goes by the way that led there
 
@@ -73,6 +73,7 @@ length-begun : {b : List Entry} {e : Entry} {s text : List ℕ} {j : ℕ} (c : B
     → length s ≡ length (lineOf (rowAt (length b)) e) + length (c .rest)
 length-begun {b} {e} c = ap length (c .split) ∙ length-append (lineOf (rowAt (length b)) e) (c .rest)
 
+-- no sheet has the lines up to the one that is named
 pub none-begins : (f : ℕ) (b : List Entry) (s : List ℕ) (k m : ℕ) (more : List Entry)
     → readBy f b s ≡ refused k → k ≡ length b + m → T (inTurn good b more) → T (whole (numbersIn (b ++ more))) → length s ≤ f
     → lines m s ≡ lines m (textFrom (length b) more) → ⊥
@@ -107,7 +108,6 @@ pub record Front (b : List Entry) (s : List ℕ) (j : ℕ) : Type 0 where
   pub text : s ≡ textFrom (length b) more ++ rest
 
 front-more : (b : List Entry) (s : List ℕ) (j : ℕ) → T (goodLine b s) → Front (b ++ (entryAt b s ∷ [])) (behind b s) j → Front b s (suc j)
-unfolding textFrom
 front-more b s j g r =
     let a : (b ++ (entryAt b s ∷ [])) ++ r .more ≡ b ++ (entryAt b s ∷ r .more) = append-assoc b (entryAt b s ∷ []) (r .more) in
     record {
@@ -116,12 +116,10 @@ front-more b s j g r =
       count = ap suc (r .count);
       goods = rw a at (r .goods);
       fits = subst (λ (es : List Entry). Open (numbersIn es)) a (r .fits);
-      text =
-          goodLine-split b s g
-          ∙ ap (λ (x : List ℕ). lineOf (rowAt (length b)) (entryAt b s) ++ x) (rw (length-snoc b (entryAt b s)) at (r .text))
-          ∙ sym (append-assoc (lineOf (rowAt (length b)) (entryAt b s)) (textFrom (suc (length b)) (r .more)) (r .rest));
+      text = text-more b s (r .more) (r .rest) g (r .text);
     }
 
+-- before the line that is named so many good lines stand
 pub some-begins : (f : ℕ) (b : List Entry) (s : List ℕ) (k j : ℕ) → readBy f b s ≡ refused k → length b + j < k
     → T (inTurn good [] b) → Open (numbersIn b) → Front b s j
 unfolding textFrom

@@ -25,10 +25,12 @@ use Rattle.sheet.proofs.Laws.Lines.{entry-line, line-pos}
 abbrev pub entryAt : List Entry → List ℕ → Entry
 entryAt b s = entryIn (rowAt (length b)) s
 
+-- its entry is good
 pub goodLine-good : (b : List Entry) (s : List ℕ) → T (goodLine b s) → T (good b (entryAt b s))
 unfolding goodLine
 goodLine-good b s t = T-and-right (begins (lineOf (rowAt (length b)) (entryAt b s)) s) (good b (entryAt b s)) t
 
+-- the text is its line and what is behind it
 pub goodLine-split : (b : List Entry) (s : List ℕ) → T (goodLine b s) → s ≡ lineOf (rowAt (length b)) (entryAt b s) ++ behind b s
 unfolding goodLine behind
 goodLine-split b s t =
@@ -36,35 +38,42 @@ goodLine-split b s t =
     (T-and-left (begins (lineOf (rowAt (length b)) (entryAt b s)) s) (good b (entryAt b s)) t)
 
 module _ (b : List Entry) (e : Entry) (u : List ℕ) (g : T (good b e)) where
+  -- a good entry is read off its line
   pub entryAt-line : entryAt b (lineOf (rowAt (length b)) e ++ u) ≡ e
   entryAt-line = entry-line (rowAt (length b)) e u (good-shaped b e g)
 
+  -- its line is good
   pub goodLine-line : T (goodLine b (lineOf (rowAt (length b)) e ++ u))
   unfolding goodLine
   goodLine-line =
       rw entryAt-line
       (T-and (begins (lineOf (rowAt (length b)) e) (lineOf (rowAt (length b)) e ++ u)) (good b e) (begins-append (lineOf (rowAt (length b)) e) u) g)
 
+  -- what follows is behind it
   pub behind-line : behind b (lineOf (rowAt (length b)) e ++ u) ≡ u
   unfolding behind
   behind-line = rw entryAt-line (drop-append-seam (lineOf (rowAt (length b)) e) u)
 
 -- ---- readBy: one line after the other
 
+-- a whole sheet is read
 pub readBy-whole : (f : ℕ) (b : List Entry) (s : List ℕ) → whole (numbersIn b) ≡ true → readBy f b s ≡ reads b
 unfolding readBy
 readBy-whole zero b s w = rw w
 readBy-whole (suc f) b s w = rw w
 
+-- with no line allowed for, the next is named
 pub readBy-none : (b : List Entry) (s : List ℕ) → whole (numbersIn b) ≡ false → readBy zero b s ≡ refused (length b + 1)
 unfolding readBy
 readBy-none b s w = rw w
 
+-- a bad line is named
 pub readBy-bad : (f : ℕ) (b : List Entry) (s : List ℕ) → whole (numbersIn b) ≡ false → goodLine b s ≡ false → readBy f b s ≡ refused (length b + 1)
 unfolding readBy
 readBy-bad zero b s w g = rw w
 readBy-bad (suc f) b s w g = rw (w, g)
 
+-- behind a good line the reading goes on
 pub readBy-good : (f : ℕ) (b : List Entry) (s : List ℕ) → whole (numbersIn b) ≡ false → goodLine b s ≡ true
     → readBy (suc f) b s ≡ readBy f (b ++ (entryAt b s ∷ [])) (behind b s)
 unfolding readBy
@@ -77,6 +86,7 @@ length-behind b s t =
     ap length (goodLine-split b s t) ∙ length-append (lineOf (rowAt (length b)) (entryAt b s)) (behind b s) in
     omega (arith, line-pos (rowAt (length b)) (entryAt b s))
 
+-- one entry more
 pub length-snoc : (b : List Entry) (e : Entry) → length (b ++ (e ∷ [])) ≡ suc (length b)
 length-snoc b e = length-append b (e ∷ []) ∙ add-one (length b)
 
@@ -91,8 +101,17 @@ pub record ReadOn (b : List Entry) (s : List ℕ) (es : List Entry) : Type 0 whe
   pub whole : T (Rattle.sheet.specs.Judge.whole (numbersIn es))
   pub text : s ≡ textFrom (length b) more ++ rest
 
+-- a good line before the text of more is the text of one more
+pub text-more : (b : List Entry) (s : List ℕ) (more : List Entry) (rest : List ℕ) → T (goodLine b s)
+    → behind b s ≡ textFrom (length (b ++ (entryAt b s ∷ []))) more ++ rest → s ≡ textFrom (length b) (entryAt b s ∷ more) ++ rest
+unfolding textFrom
+text-more b s more rest t e =
+    goodLine-split b s t
+    ∙ ap (λ (x : List ℕ). lineOf (rowAt (length b)) (entryAt b s) ++ x) (rw (length-snoc b (entryAt b s)) at e)
+    ∙ sym (append-assoc (lineOf (rowAt (length b)) (entryAt b s)) (textFrom (suc (length b)) more) rest)
+
 read-more : (b : List Entry) (s : List ℕ) (es : List Entry) → T (goodLine b s) → ReadOn (b ++ (entryAt b s ∷ [])) (behind b s) es → ReadOn b s es
-unfolding textFrom inTurn
+unfolding inTurn
 read-more b s es t r =
     record {
       more = entryAt b s ∷ r .more;
@@ -100,10 +119,7 @@ read-more b s es t r =
       all = r .all ∙ append-assoc b (entryAt b s ∷ []) (r .more);
       good = T-and (good b (entryAt b s)) (inTurn good (b ++ (entryAt b s ∷ [])) (r .more)) (goodLine-good b s t) (r .good);
       whole = r .whole;
-      text =
-          goodLine-split b s t
-          ∙ ap (λ (x : List ℕ). lineOf (rowAt (length b)) (entryAt b s) ++ x) (rw (length-snoc b (entryAt b s)) at (r .text))
-          ∙ sym (append-assoc (lineOf (rowAt (length b)) (entryAt b s)) (textFrom (suc (length b)) (r .more)) (r .rest));
+      text = text-more b s (r .more) (r .rest) t (r .text);
     }
 
 -- at a whole sheet, at a bad line, or at a good one
@@ -160,6 +176,7 @@ read-back (e ∷ es) (suc f) b u t w h =
 
 -- ---- which texts read
 
+-- what reads is a sheet's, and its text is the front
 pub outcome-reads : (t : List ℕ) (es : List Entry) → outcome t ≡ reads es → T (valid es) × ((u : List ℕ) × (t ≡ textOf es ++ u))
 unfolding outcome valid textOf
 outcome-reads t es p =
@@ -168,6 +185,7 @@ outcome-reads t es p =
       (r .rest, r .text ∙ ap (λ (x : List Entry). textFrom 0 x ++ r .rest) (sym (r .all))),
     )
 
+-- a text with a sheet's in front reads to it
 pub reads-outcome : (es : List Entry) (u : List ℕ) → T (valid es) → outcome (textOf es ++ u) ≡ reads es
 unfolding outcome valid textOf
 reads-outcome es u t =

@@ -8,12 +8,13 @@ use Prim.Native.Nat.{ℕ, _+_, _≤_, _<_, min}
 use native.Mathlib.Numerals.{add-one}
 use native.Mathlib.Omega.{arith}
 use lib.ListN.{length, getD, take, drop, length-take, List·getD-append}
-use lib.Seq.{take-append-seam, drop-cons, getD-take}
+use lib.Seq.{drop-cons, getD-take}
 use lib.Dec.{eqb}
 use borrow.Author.Tests.{eq-eqb, ne-eqb, le-leb, lt-leb}
 use Rattle.octets.specs.Choice.{same, front, first-place}
 use Rattle.octets.specs.Buffer.{zerosFrom}
 use Rattle.octets.proofs.Choice.{front-split, length-front-le, front-drop-true, front-drop-false, front-drop-end, first-place-none, first-place-some}
+use Rattle.octets.proofs.Places.{take-front}
 use Rattle.octets.proofs.Buffer.{same-padded}
 use Rattle.sheet.specs.Line.{longestName}
 use Rattle.sheet.specs.Judge.{userId}
@@ -38,7 +39,7 @@ pub nameOf-step : (row : List ℕ) (at : ℕ) → at < length row → (getD row 
 unfolding nameOf nonzero
 nameOf-step row at h e = front-drop-true nonzero row at h (rw (ne-eqb _ _ e))
 
--- and so does the row's end
+-- the row's end ends it too
 pub nameOf-end : (row : List ℕ) (at : ℕ) → length row ≤ at → nameOf (drop at row) ≡ []
 unfolding nameOf nonzero
 nameOf-end row at h = front-drop-end nonzero row at h
@@ -57,9 +58,7 @@ getD-nameOf row i h =
 -- it is the row's front
 pub take-nameOf : (row : List ℕ) → take (length (nameOf row)) row ≡ nameOf row
 unfolding nameOf nonzero
-take-nameOf row =
-    let name : List ℕ = front nonzero row in
-    ap (take (length name)) (front-split nonzero row) ∙ take-append-seam name (drop (length name) row)
+take-nameOf row = take-front nonzero row
 
 -- ---- a row's name and another, place by place
 

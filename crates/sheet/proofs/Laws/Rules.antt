@@ -30,11 +30,6 @@ pub row-unnamed : (k : ℕ) → k < numberLines → rowAt k .named ≡ false
 unfolding rowAt table numberLines
 row-unnamed k h = T-false (rowAt k .named) (T-not (rowAt k .named) (every-getD (λ (r : Row). not (r .named)) table k seatRow tt h))
 
--- one stands on a seat's
-pub row-named : (k : ℕ) → numberLines ≤ k → rowAt k .named ≡ true
-unfolding seatRow
-row-named k h = rw (rowAt-seat k h)
-
 -- every number that a line may have is below the cap
 pub greatest-cap : (k : ℕ) → rowAt k .greatest < cap
 unfolding table seatRow
@@ -68,6 +63,7 @@ rows =
     ∷ (92, 97, 0, 4294967295, 7, true)
     ∷ []
 
+-- a row as the rule that the code makes of it
 abbrev pub made : Coded.Row → Rule
 made row = record { from = row .0; end = row .1; least = row .2; greatest = row .3; family = row .4; named = row .5 }
 
@@ -117,6 +113,6 @@ unfolding numberLines table right rowAt rows keys
 rule-number k h = right-rule k _ (below 11 (λ (i : ℕ). right (rowAt i) (made (getD rows i (0, 0, 0, 0, 0, false)))) tt k h)
 
 -- and the row behind them is a seat's
-pub rule-seat : (k : ℕ) → numberLines ≤ k → RuleOf k (record { from = 92; end = 97; least = 0; greatest = 4294967295; family = 7; named = true })
-unfolding right seatRow keys
+pub rule-seat : (k : ℕ) → numberLines ≤ k → RuleOf k (made (getD rows numberLines (0, 0, 0, 0, 0, false)))
+unfolding numberLines table right seatRow rows keys
 rule-seat k h = right-rule k _ (rw (rowAt-seat k h) tt)

@@ -14,7 +14,7 @@ use Rattle.octets.specs.Choice.{pick, same, begins, every, some-of}
 use Rattle.octets.specs.Buffer.{padded, over}
 use Rattle.octets.proofs.Lists.{map-drop, drop-replicate}
 use Rattle.octets.proofs.Choice.{T-true, T-false, le-or-lt, T-and-left, T-and-right}
-use Rattle.octets.proofs.Buffer.{take-padded, set-padded, getD-padded, padded-full}
+use Rattle.octets.proofs.Buffer.{take-padded, set-padded, getD-padded, padded-full, padded-nil}
 use Rattle.sheet.specs.Table.{table, numberLines, seatsLine, mostSeats, rowAt}
 use Rattle.sheet.specs.Line.{Entry, longestName, visible, lineOf, entryIn, textFrom, textOf}
 use Rattle.sheet.specs.Judge.{numbersIn, namesIn, goodNumber, goodName, userId, good, inTurn, whole}
@@ -89,9 +89,11 @@ name-judged b s t =
     (λ h. rw (lt-leb numberLines (length b) h) (sym (ap (goodName (namesIn b)) (name-none b s h) ∙ no-name b h)))
     (le-or-lt numberLines (length b))
 
+-- the lines of the longest sheet
 abbrev pub room : ℕ
-room = 19
+room = numberLines + mostSeats
 
+-- a line judged against the arrays is judged against the entries
 pub line-judged : (t : List ℕ) (at : ℕ) (b : List Entry) → T (inTurn good [] b)
     → goodAt t at (length b) (padded room 0 (numbersIn b)) (usersOf b) ≡ goodLine b (drop at t)
 unfolding goodAt goodLine good
@@ -121,7 +123,7 @@ pub record Scanned (t numbers : List ℕ) (users : List (List ℕ)) (total at k 
   pub same-outcome : readBy fuel before (drop at t) ≡ outcome t
 
 -- before the first line
-pub scanned-none : (t : List ℕ) → Scanned t (replicate 19 0) (usersOf []) 11 0 0
+pub scanned-none : (t : List ℕ) → Scanned t (replicate room 0) (usersOf []) numberLines 0 0
 unfolding inTurn padded numberLines table seatsLine textOf textFrom outcome
 scanned-none t =
     record {
@@ -129,7 +131,7 @@ scanned-none t =
       fuel = length t;
       count = refl;
       goods = tt;
-      numbers-are = refl;
+      numbers-are = sym (padded-nil room 0);
       users-are = refl;
       total-is = refl;
       fits = zero-le;
@@ -151,7 +153,7 @@ module _ {t numbers : List ℕ} {users : List (List ℕ)} {total at k : ℕ} (i 
       ∙ line-judged t at es (i .goods)
 
   -- a sheet has no more lines than the arrays have room for
-  pub scanned-room : total ≤ 19
+  pub scanned-room : total ≤ room
   unfolding numberLines table mostSeats
   scanned-room = let b : seatsIn (numbersIn es) ≤ mostSeats = seats-bound (numbersIn es) (good-numbers [] es (i .goods)) in omega (arith, i .total-is)
 
@@ -233,6 +235,7 @@ module _ {t numbers : List ℕ} {users : List (List ℕ)} {total at k : ℕ} (i 
   next-numbers : numbersIn more ≡ numbersIn (i .before) ++ (next .number ∷ [])
   next-numbers = numbersIn-append (i .before) (next ∷ [])
 
+  -- its number is laid out behind the others
   pub numbers-next : set numbers k (next .number) ≡ padded room 0 (numbersIn more)
   numbers-next =
       ap (λ (ns : List ℕ). set ns k (next .number)) (i .numbers-are)
@@ -240,9 +243,11 @@ module _ {t numbers : List ℕ} {users : List (List ℕ)} {total at k : ℕ} (i 
       ∙ set-padded room 0 (numbersIn (i .before)) (next .number) (let r = scanned-room i in let l = length-numbers in omega arith)
       ∙ ap (padded room 0) (sym next-numbers)
 
-  pub users-alone : k < numberLines → users ≡ usersOf more
-  users-alone l = i .users-are ∙ sym (users-kept (i .before) next (rw (i .count) l))
+  -- a line with a number alone leaves the User IDs
+  pub users-same : k < numberLines → users ≡ usersOf more
+  users-same l = i .users-are ∙ sym (users-kept (i .before) next (rw (i .count) l))
 
+  -- a seat's puts its own
   pub users-next : numberLines ≤ k → set users (k - numberLines) (over (next .name) (getD users (k - numberLines) [])) ≡ usersOf more
   unfolding numberLines table mostSeats
   users-next l =
@@ -259,6 +264,7 @@ module _ {t numbers : List ℕ} {users : List (List ℕ)} {total at k : ℕ} (i 
       ap (λ (n : ℕ). numberLines + n)
       (sym (ap (λ (ns : List ℕ). seatsIn ns) next-numbers ∙ getD-at (numbersIn (i .before)) (next .number) [] 0 seatsLine (let c = length-numbers in omega arith)))
 
+  -- any other line leaves their count
   pub total-other : (k + 1 ≡ numberLines → ⊥) → total ≡ numberLines + seatsIn (numbersIn more)
   unfolding numberLines table seatsLine
   total-other l =
@@ -306,6 +312,7 @@ module _ {t numbers : List ℕ} {users : List (List ℕ)} {total at k : ℕ} (i 
               ∙ o,
         )
 
+    -- what the pass holds behind it
     pub scanned-more : (users′ : List (List ℕ)) (total′ at′ : ℕ) → users′ ≡ usersOf more → total′ ≡ numberLines + seatsIn (numbersIn more)
         → at′ ≡ at + length (lineOf (rowAt k) next) → at′ ≤ length t → Scanned t (set numbers k (next .number)) users′ total′ at′ (k + 1)
     scanned-more users′ total′ at′ u n a l =
@@ -338,18 +345,18 @@ module _ {t numbers : List ℕ} {users : List (List ℕ)} {total at k : ℕ} (i 
     (n a e : ℕ) (j : JudgedIs t at k numbers users (Good n a e)) where
   -- how many lines there are after it
   abbrev pub TotalAfter : ℕ → Type 0
-  TotalAfter total′ = ((k + 1 ≡ 11) × (total′ ≡ 11 + n)) ⊎ ((k + 1 ≡ 11 → ⊥) × (total′ ≡ total))
+  TotalAfter total′ = ((k + 1 ≡ numberLines) × (total′ ≡ numberLines + n)) ⊎ ((k + 1 ≡ numberLines → ⊥) × (total′ ≡ total))
 
   -- the User IDs after it
   abbrev pub UsersAfter : List (List ℕ) → Type 0
   UsersAfter users′ =
-      ((11 ≤ k) × (users′ ≡ set users (k - 11) (over (take (e - a) (drop a t)) (getD users (k - 11) [])))) ⊎ ((k < 11) × (users′ ≡ users))
+      ((numberLines ≤ k) × (users′ ≡ set users (k - numberLines) (over (take (e - a) (drop a t)) (getD users (k - numberLines) [])))) ⊎ ((k < numberLines) × (users′ ≡ users))
 
   total-after : (total′ : ℕ) → TotalAfter total′ → total′ ≡ numberLines + seatsIn (numbersIn (i .before ++ (entryIn (rowAt k) (drop at t) ∷ [])))
   unfolding numberLines table JudgedIs
   total-after total′ w =
       ⊎-elim
-      (λ u. u .1 ∙ ap (λ (x : ℕ). 11 + x) (j .1) ∙ total-seats i h (u .0))
+      (λ u. u .1 ∙ ap (λ (x : ℕ). numberLines + x) (j .1) ∙ total-seats i h (u .0))
       (λ u. u .1 ∙ total-other i h (u .0))
       w
 
@@ -357,10 +364,11 @@ module _ {t numbers : List ℕ} {users : List (List ℕ)} {total at k : ℕ} (i 
   unfolding numberLines table JudgedIs
   users-after users′ w =
       ⊎-elim
-      (λ u. u .1 ∙ ap (λ (name : List ℕ). set users (k - 11) (over name (getD users (k - 11) []))) (j .2 .octets) ∙ users-next i h (u .0))
-      (λ u. u .1 ∙ users-alone i h (u .0))
+      (λ u. u .1 ∙ ap (λ (name : List ℕ). set users (k - numberLines) (over name (getD users (k - numberLines) []))) (j .2 .octets) ∙ users-next i h (u .0))
+      (λ u. u .1 ∙ users-same i h (u .0))
       w
 
+  -- what the pass holds after a turn
   pub scanned-turn : (users′ : List (List ℕ)) (total′ : ℕ) → UsersAfter users′ → TotalAfter total′ → Scanned t (set numbers k n) users′ total′ (e + 1) (k + 1)
   unfolding JudgedIs
   scanned-turn users′ total′ u w =
@@ -384,31 +392,34 @@ module _ {t numbers : List ℕ} {users : List (List ℕ)} {total at k : ℕ} (i 
       ap₂ (λ (us : List (List ℕ)) (m : ℕ). length (getD us (m - numberLines) [])) (i .users-are) (sym (i .count))
       ∙ ap length (next-row (i .before) (let c = i .count in omega arith))
 
-  pub name-fits : 11 ≤ k → length (take (e - a) (drop a t)) ≤ length (getD users (k - 11) [])
+  -- so that it is put whole
+  pub name-fits : numberLines ≤ k → length (take (e - a) (drop a t)) ≤ length (getD users (k - numberLines) [])
   unfolding numberLines table JudgedIs
   name-fits l = let m : length (take (e - a) (drop a t)) ≡ length (entryIn (rowAt k) (drop at t) .name) = ap length (j .2 .octets) in omega (arith, name-short l, row-long l)
 
 -- ---- what the pass gives
 
-drop-numbers : (ns : List ℕ) → numberLines ≤ length ns → drop 11 (padded room 0 ns) ≡ padded mostSeats 0 (drop numberLines ns)
-unfolding padded numberLines table mostSeats
+drop-numbers : (ns : List ℕ) → numberLines ≤ length ns → drop numberLines (padded room 0 ns) ≡ padded mostSeats 0 (drop numberLines ns)
+unfolding padded
 drop-numbers ns h =
-    let l : 19 - length ns ≡ 8 - length (drop 11 ns) = let d = length-drop 11 ns in omega arith in
-    drop-append-le 11 ns (replicate (19 - length ns) 0) h ∙ ap (λ (n : ℕ). drop 11 ns ++ replicate n 0) l
+    let l : room - length ns ≡ mostSeats - length (drop numberLines ns) = let d = length-drop numberLines ns in omega arith in
+    drop-append-le numberLines ns (replicate (room - length ns) 0) h ∙ ap (λ (n : ℕ). drop numberLines ns ++ replicate n 0) l
 
 -- zeros behind the numbers leave the sheet as it is
 sheetFrom-padded : (ns : List ℕ) → numberLines ≤ length ns → sheetFrom (padded room 0 ns) ≡ sheetFrom ns
-unfolding sheetFrom padded numberLines table mostSeats
+unfolding sheetFrom padded
 sheetFrom-padded ns h =
-    let l : length (ns ++ replicate (19 - length ns) 0) ≡ length ns + (19 - length ns) = simp (length-append, length-replicate) in
-    let d : length (drop 11 (padded room 0 ns)) ≡ length (padded room 0 ns) - 11 = length-drop 11 (padded room 0 ns) in
-    ap₂ sheetBy (fun-ext (getD-padded room 0 ns)) (padded-full 8 0 (drop 11 (padded room 0 ns)) (omega arith) ∙ drop-numbers ns h)
+    let l : length (ns ++ replicate (room - length ns) 0) ≡ length ns + (room - length ns) = simp (length-append, length-replicate) in
+    let d : length (drop numberLines (padded room 0 ns)) ≡ length (padded room 0 ns) - numberLines = length-drop numberLines (padded room 0 ns) in
+    ap₂ sheetBy (fun-ext (getD-padded room 0 ns)) (padded-full mostSeats 0 (drop numberLines (padded room 0 ns)) (omega arith) ∙ drop-numbers ns h)
 
 module _ {t numbers : List ℕ} {users : List (List ℕ)} {total at k : ℕ} (i : Scanned t numbers users total at k) where
+  -- at a bad line the reading is that refusal
   pub scanned-refused : k < total → goodAt t at k numbers users ≡ false → readOf t ≡ readingOf (refused (k + 1))
   unfolding readOf
   scanned-refused h g = ap readingOf (scanned-bad i h g)
 
+  -- behind the last line the reading is the numbers laid out
   pub scanned-reading : total ≤ k → readOf t ≡ record { sheet = sheetFrom numbers; used = at; refusal = noRefusal }
   unfolding readOf readingOf sheetOf
   scanned-reading h =
@@ -416,6 +427,7 @@ module _ {t numbers : List ℕ} {users : List (List ℕ)} {total at k : ℕ} (i 
       let l : sheetFrom numbers ≡ sheetFrom ns = ap sheetFrom (i .numbers-are) ∙ sheetFrom-padded ns (let m = length-numbersIn (i .before) in omega (arith, i .total-is, i .count)) in
       ap readingOf (scanned-all i h) ∙ (λ j. record { sheet = sym l j; used = sym (i .place) j; refusal = noRefusal })
 
+  -- and the User IDs are those that were put
   pub scanned-users : total ≤ k → usersIn t ≡ users
   unfolding usersIn usersFrom
   scanned-users h = ap usersFrom (scanned-all i h) ∙ sym (i .users-are)
@@ -426,6 +438,7 @@ unfolding readingOf usersFrom
 users-by (reads es) h = absurd (h refl)
 users-by (refused k) h = refl
 
+-- a refused sheet has no User IDs
 pub usersIn-refused : (t : List ℕ) → (readOf t .refusal .number ≡ 0 → ⊥) → usersIn t ≡ usersOf []
 unfolding readOf usersIn
 usersIn-refused t h = users-by (outcome t) h

@@ -1,14 +1,13 @@
 -- Laws on a value judged without its text: the struct line by line, and the User IDs row by row. Assumes nothing.
-use mathlib.Core.Path.{_≡_, refl, sym, ap, ap₂, _∙_, subst}
+use mathlib.Core.Path.{_≡_, sym, ap, ap₂, _∙_, subst}
 use mathlib.Core.Logic.{⊎-elim}
 use mathlib.Core.Bool.{Bool, true, false, not, _&&_, and-assoc}
-use mathlib.Core.List.{List, [], _∷_, _++_, map, append-nil, append-assoc}
-use Prim.Native.Nat.{ℕ, zero, suc, _+_, _-_, _≤_, _<_, suc-le-suc}
-use native.Mathlib.Nat.{zero-lt-suc}
+use mathlib.Core.List.{List, [], _++_, map}
+use Prim.Native.Nat.{ℕ, _+_, _-_, _≤_, _<_}
 use native.Mathlib.Numerals.{add-one}
 use native.Mathlib.Omega.{arith}
 use lib.ListN.{length, getD, take, drop, length-append, length-take, length-map, drop-of-length-le, List·getD-append, List·getD-map, List·getD-eq-default}
-use lib.Seq.{length-take-le, drop-cons, take-suc, take-all, take-take, getD-take, take-append-add, drop-append-add, getD-append-add, ext-getD}
+use lib.Seq.{length-take-le, drop-cons, take-suc, take-take, getD-take, take-append-add, drop-append-add, getD-append-add, ext-getD}
 use lib.Dec.{T, eqb, eqb→eq}
 use Rattle.octets.specs.Choice.{same, some-of}
 use Rattle.octets.specs.Buffer.{zerosFrom, padded}
@@ -21,10 +20,10 @@ use Rattle.sheet.specs.Line.{Entry}
 use Rattle.sheet.specs.Judge.{numbersIn, namesIn, goodNumber, goodName, userId, good, inTurn, whole, valid}
 use Rattle.sheet.specs.Value.{sheetBy, sheetFrom, sheetOf, rowOf, usersOf, numbersOf, nameOf, alone, seatEntries, entriesOf, validWith, validAlone}
 use Rattle.sheet.specs.Inner.{newName, goodRow}
-use Rattle.sheet.proofs.Laws.Entries.{eq-whole, length-numbersIn, inTurn-at, good-name}
+use Rattle.sheet.proofs.Laws.Entries.{at-inTurn, eq-whole, length-numbersIn, inTurn-at, good-name}
 use Rattle.sheet.proofs.Laws.Fresh.{seats-bound}
 use Rattle.sheet.proofs.Laws.Rows.{take-nameOf, goodRow-unused, goodRow-used}
-use Rattle.sheet.proofs.Laws.Laid.{numbersIn-seats, nameOf-rowOf, valid-good, valid-entries, usersOf-entries, sheetFrom-numbers, laid-valid}
+use Rattle.sheet.proofs.Laws.Laid.{numbersIn-entriesOf, namesIn-seats, nameOf-rowOf, valid-good, valid-entries, usersOf-entries, sheetFrom-numbers, laid-valid}
 use Rattle.sheet.proofs.Laws.Names.{no-name, seat-named, new-among}
 use Rattle.sheet.proofs.Laws.Claims.{valid-alone-exactly}
 
@@ -149,22 +148,6 @@ module _ (seats : ℕ) (users : List (List ℕ)) (i : ℕ) where
 
 -- ---- the entries that a value stands for, one by one
 
--- the User IDs of the seats, as far as there are rows
-names-seats : (xs : List ℕ) (us : List (List ℕ)) → namesIn (seatEntries xs us) ≡ map nameOf (take (length xs) us)
-unfolding seatEntries
-names-seats [] us = refl
-names-seats (x ∷ xs) [] = refl
-names-seats (x ∷ xs) (u ∷ us) = ap (λ (l : List (List ℕ)). nameOf u ∷ l) (names-seats xs us)
-
--- each good behind those before it, so all in turn
-at-inTurn : {A : Type 0} (p : List A → A → Bool) (d : A) (b xs : List A) → ((k : ℕ) → k < length xs → T (p (b ++ take k xs) (getD xs k d)))
-    → T (inTurn p b xs)
-unfolding inTurn
-at-inTurn p d b [] h = tt
-at-inTurn p d b (x ∷ xs) h =
-    T-and (p b x) (inTurn p (b ++ (x ∷ [])) xs) (rw (append-nil b) at (h zero (zero-lt-suc (length xs))))
-    (at-inTurn p d (b ++ (x ∷ [])) xs (λ k l. rw (append-assoc b (x ∷ []) (take k xs)) (h (suc k) (suc-le-suc l))))
-
 -- a struct that is a sheet's, with eight rows beside it
 module _ (s : Sheet) (users : List (List ℕ)) (eight : length (s .ssrcs) ≡ mostSeats) (rows : length users ≡ mostSeats) (t : T (validAlone s)) where
   abbrev es : List Entry
@@ -173,8 +156,8 @@ module _ (s : Sheet) (users : List (List ℕ)) (eight : length (s .ssrcs) ≡ mo
   abbrev xs : List ℕ
   xs = take (s .seats) (s .ssrcs)
 
-  abbrev seated : List (List ℕ)
-  seated = take (s .seats) users
+  abbrev on-seats : List (List ℕ)
+  on-seats = take (s .seats) users
 
   abbrev blank : List (List ℕ)
   blank = namesIn (map alone (numbersOf s))
@@ -188,14 +171,12 @@ module _ (s : Sheet) (users : List (List ℕ)) (eight : length (s .ssrcs) ≡ mo
 
   -- the entries' numbers, names, and how many they are
   entries-numbers : numbersIn es ≡ numbersOf s ++ xs
-  unfolding entriesOf numbersOf
-  entries-numbers =
-      ap (λ (ns : List ℕ). numbersOf s ++ ns) (numbersIn-seats xs users ∙ take-all (length users) xs (omega (arith, few, length-xs)))
+  entries-numbers = numbersIn-entriesOf s users (omega (arith, few, length-xs))
 
-  entries-names : namesIn es ≡ blank ++ map nameOf seated
+  entries-names : namesIn es ≡ blank ++ map nameOf on-seats
   unfolding entriesOf numbersOf
   entries-names =
-      ap (λ (names : List (List ℕ)). blank ++ names) (names-seats xs users ∙ ap (λ (n : ℕ). map nameOf (take n users)) length-xs)
+      ap (λ (names : List (List ℕ)). blank ++ names) (namesIn-seats xs users ∙ ap (λ (n : ℕ). map nameOf (take n users)) length-xs)
 
   length-entries : length es ≡ numberLines + s .seats
   unfolding numbersOf numberLines table
@@ -203,8 +184,8 @@ module _ (s : Sheet) (users : List (List ℕ)) (eight : length (s .ssrcs) ≡ mo
       sym (length-numbersIn es) ∙ ap length entries-numbers ∙ length-append (numbersOf s) xs ∙ ap (λ (n : ℕ). numberLines + n) length-xs
 
   -- the number of entry k is judged as the struct's
-  number-judged : (k : ℕ) → goodNumber (numbersIn (take k es)) (getD es k (alone 0) .number) ≡ goodNumber (take k (numbersOf s ++ xs)) (getD (numbersOf s ++ xs) k 0)
-  number-judged k =
+  entry-judged : (k : ℕ) → goodNumber (numbersIn (take k es)) (getD es k (alone 0) .number) ≡ goodNumber (take k (numbersOf s ++ xs)) (getD (numbersOf s ++ xs) k 0)
+  entry-judged k =
       ap₂ goodNumber
       (map-take (λ (e : Entry). e .number) k es ∙ ap (take k) entries-numbers)
       (sym (List·getD-map (λ (e : Entry). e .number) es k (alone 0)) ∙ ap (λ (ns : List ℕ). getD ns k 0) entries-numbers)
@@ -222,22 +203,22 @@ module _ (s : Sheet) (users : List (List ℕ)) (eight : length (s .ssrcs) ≡ mo
   names-before i h =
       map-take (λ (e : Entry). e .name) (numberLines + i) es
       ∙ ap (take (numberLines + i)) entries-names
-      ∙ take-append-add blank (map nameOf seated) i
-      ∙ ap (λ (names : List (List ℕ)). blank ++ names) (sym (map-take nameOf i seated) ∙ ap (map nameOf) (take-take i (s .seats) users h))
+      ∙ take-append-add blank (map nameOf on-seats) i
+      ∙ ap (λ (names : List (List ℕ)). blank ++ names) (sym (map-take nameOf i on-seats) ∙ ap (map nameOf) (take-take i (s .seats) users h))
 
   name-at : (i : ℕ) → i < s .seats → getD es (numberLines + i) (alone 0) .name ≡ nameOf (getD users i [])
   unfolding numbersOf numberLines table nameOf
   name-at i h =
       sym (List·getD-map (λ (e : Entry). e .name) es (numberLines + i) (alone 0))
       ∙ ap (λ (names : List (List ℕ)). getD names (numberLines + i) []) entries-names
-      ∙ getD-append-add blank (map nameOf seated) i []
-      ∙ List·getD-map nameOf seated i []
+      ∙ getD-append-add blank (map nameOf on-seats) i []
+      ∙ List·getD-map nameOf on-seats i []
       ∙ ap nameOf (getD-take (s .seats) users i [] h)
 
   -- a seat's name is judged as its row's
-  name-judged : (i : ℕ) → i < s .seats
+  seat-judged : (i : ℕ) → i < s .seats
       → goodName (namesIn (take (numberLines + i) es)) (getD es (numberLines + i) (alone 0) .name) ≡ newName i users (nameOf (getD users i []))
-  name-judged i h =
+  seat-judged i h =
       let l : length (take (numberLines + i) es) ≡ numberLines + i = length-take-le (numberLines + i) es (rw length-entries (omega arith)) in
       let name = nameOf (getD users i []) in
       ap (goodName (namesIn (take (numberLines + i) es))) (name-at i h)
@@ -246,16 +227,16 @@ module _ (s : Sheet) (users : List (List ℕ)) (eight : length (s .ssrcs) ≡ mo
       ∙ sym (new-among (numbersOf s) i users name)
 
   -- the rows that the entries are laid out to
-  users-laid : usersOf es ≡ padded mostSeats (rowOf []) (map rowOf (map nameOf seated))
+  users-laid : usersOf es ≡ padded mostSeats (rowOf []) (map rowOf (map nameOf on-seats))
   unfolding usersOf numbersOf numberLines table
   users-laid = ap (λ (names : List (List ℕ)). padded mostSeats (rowOf []) (map rowOf (drop numberLines names))) entries-names
 
   -- eight of them
   length-laid : length (usersOf es) ≡ length users
   length-laid =
-      let l : length seated ≡ s .seats = length-take-le (s .seats) users (omega (arith, few)) in
+      let l : length on-seats ≡ s .seats = length-take-le (s .seats) users (omega (arith, few)) in
       ap length users-laid
-      ∙ length-padded mostSeats (rowOf []) (map rowOf (map nameOf seated)) (omega (arith, few, length-map (map nameOf seated) rowOf, length-map seated nameOf))
+      ∙ length-padded mostSeats (rowOf []) (map rowOf (map nameOf on-seats)) (omega (arith, few, length-map (map nameOf on-seats) rowOf, length-map on-seats nameOf))
       ∙ sym rows
 
   -- one by one
@@ -263,9 +244,9 @@ module _ (s : Sheet) (users : List (List ℕ)) (eight : length (s .ssrcs) ≡ mo
   unfolding nameOf
   row-laid i =
       ap (λ (us : List (List ℕ)). getD us i (rowOf [])) users-laid
-      ∙ getD-padded mostSeats (rowOf []) (map rowOf (map nameOf seated)) i
-      ∙ List·getD-map rowOf (map nameOf seated) i []
-      ∙ ap rowOf (List·getD-map nameOf seated i [])
+      ∙ getD-padded mostSeats (rowOf []) (map rowOf (map nameOf on-seats)) i
+      ∙ List·getD-map rowOf (map nameOf on-seats) i []
+      ∙ ap rowOf (List·getD-map nameOf on-seats i [])
 
   -- ---- a value is a sheet's exactly if its struct is and each row is good
 
@@ -279,7 +260,7 @@ module _ (s : Sheet) (users : List (List ℕ)) (eight : length (s .ssrcs) ≡ mo
       laid-good (s .seats) users i laid
       (λ l.
       let k : numberLines + i < length es = rw length-entries (omega arith) in
-      rw (name-judged i l) at
+      rw (seat-judged i l) at
       (good-name (take (numberLines + i) es) (getD es (numberLines + i) (alone 0))
       (inTurn-at good es (numberLines + i) (alone 0) (valid-good es (valid-entries s users v)) k)))
 
@@ -294,7 +275,7 @@ module _ (s : Sheet) (users : List (List ℕ)) (eight : length (s .ssrcs) ≡ mo
         let m : i < s .seats = omega arith in
         let e : numberLines + i ≡ k = omega arith in
         subst (λ (j : ℕ). T (goodName (namesIn (take j es)) (getD es j (alone 0) .name))) e
-        (rw (name-judged i m) (good-new (s .seats) users i (good-rows i (omega (arith, few))) m)))
+        (rw (seat-judged i m) (good-new (s .seats) users i (good-rows i (omega (arith, few))) m)))
         (λ (l : k < numberLines).
         rw (name-alone k l)
         (true-T (goodName (namesIn (take k es)) []) (no-name (take k es) (rw (length-take-le k es (omega arith)) l))))
@@ -309,7 +290,7 @@ module _ (s : Sheet) (users : List (List ℕ)) (eight : length (s .ssrcs) ≡ mo
         (λ k h.
         let l : k < length (numbersOf s ++ xs) = rw (← entries-numbers, length-numbersIn es) h in
         T-and (goodNumber (numbersIn (take k es)) (getD es k (alone 0) .number)) (goodName (namesIn (take k es)) (getD es k (alone 0) .name))
-        (rw (number-judged k) (inTurn-at goodNumber (numbersOf s ++ xs) k 0 g l))
+        (rw (entry-judged k) (inTurn-at goodNumber (numbersOf s ++ xs) k 0 g l))
         (good-names k h))
 
     -- and the value is a sheet's

@@ -10,6 +10,7 @@ use denote.Ref.{now}
 use borrow.Author.Needs.{needs}
 use Rattle.sheet.specs.declared.line.Line.the-variants.{Good}
 use Rattle.sheet.specs.declared.Reading.{Reading}
+use Rattle.sheet.specs.Table.{table, numberLines, mostSeats}
 use Rattle.sheet.specs.Value.{noRefusal, readingOf}
 use Rattle.sheet.specs.Inner.{JudgedIs}
 use Rattle.sheet.proofs.Laws.Judgement.{judged-cap}
@@ -29,6 +30,7 @@ state : (c : tie.In-loop Inv-loop μ-loop)
 state c = c .before .loop .inv
 
 room : (c : tie.In-loop Inv-loop μ-loop) → c .before .loop .k < 19
+unfolding numberLines table mostSeats
 room c = omega (arith, scanned-room (state c), c .loop-test .taken)
 
 -- a good line: its number, and where its name begins and ends
@@ -51,6 +53,7 @@ judged-good c =
     (c .before .number .given .1) (c .before .before .before .judged .ensures)
 
 loop-holds : tie.Need-loop-holds Inv-loop μ-loop
+unfolding numberLines table mostSeats
 loop-holds c = subst (λ (us : List (List ℕ)). Scanned (now (c .before .args .text)) _ us 11 0 0) (sym (c .before .pre)) (scanned-none (now (c .before .args .text)))
 
 judged-requires : tie.Need-judged-requires Inv-loop μ-loop
@@ -118,6 +121,7 @@ unfolding JudgedIs
 part-keep-end c = let h = judged-good (c .before .before .before) .2 .within in omega arith
 
 keep-requires : tie.Need-keep-requires Inv-loop μ-loop
+unfolding numberLines table
 keep-requires c κs =
     let f = c .before .before .before .before in
     name-fits (state (turn f)) (turn f .loop-test .taken) (number f) (from f) (end f) (judged-good f) (c .before .before .if2 .taken)
@@ -133,6 +137,7 @@ loop-less : tie.Need-loop-less Inv-loop μ-loop
 loop-less c = omega (arith, room (turn (c .before .before)))
 
 loop-again : tie.Need-loop-again Inv-loop μ-loop
+unfolding numberLines table
 loop-again c =
     let f = c .before .before in
     scanned-turn (state (turn f)) (turn f .loop-test .taken) (number f) (from f) (end f) (judged-good f) (c .if2 .users) (c .before .if1 .lines)

@@ -20,7 +20,7 @@ unfolding rows numberLines table
 returns c = rule-number (c .before .before .args .k) (c .before .if1 .taken)
 
 returns-2 : tie.Need-returns-2
-unfolding numberLines table
+unfolding rows numberLines table
 returns-2 c = rule-seat (c .before .before .args .k) (c .before .if1 .left)
 
 pub rule-of-spec : {M : Type 1} → statement M
