@@ -1,5 +1,5 @@
 -- The lines of a call sheet, as a table (document 01, "Call sheet"): "key=value lines in this order, each ended by one LF,
--- no spaces, decimal without leading zeros". A later line with a number is one row more. Assumes nothing.
+-- no spaces, decimal without leading zeros". A later line with a number is one row more, and a field of the struct. Assumes nothing.
 use Prim.Native.Nat.{ℕ, _-_}
 use Prim.Native.String.{String}
 use mathlib.Core.Bool.{Bool, true, false}
