@@ -25,12 +25,14 @@ pub struct Sheet {
     pub ssrcs: [u32; SEATS],
 }
 
-// The most seats that a sheet has, and the most octets of a User ID.
+// The most seats that a sheet has.
 const SEATS: usize = 8;
 
-const WIDTH: usize = 60;
-
+// The same, as the sheet's own number.
 const MOST_SEATS: u32 = SEATS as u32;
+
+// The most octets of a User ID.
+const WIDTH: usize = 60;
 
 // The User IDs of eight seats, 60 octets each; unused octets are zero.
 pub type Users = [[u8; WIDTH]; SEATS];
