@@ -24,11 +24,16 @@ use Rattle.sheet.specs.Find.{seatOfUser}
 unfoldable pub keys : List ℕ
 keys = ascii "server=limit=request=response=endrequest=endresponse=txend=txendresponse=ack=resultid=seats=seat="
 
+-- no line before line j is of this family
+abbrev pub NoneBefore : ℕ → ℕ → Type 0
+NoneBefore j family = (i : ℕ) → i < j → eqb (rowAt i .family) family ≡ false
+
 -- a rule of the code is the row of line k
 pub record RuleOf (k : ℕ) (r : Rule) : Type 0 where
   pub least : r .least ≡ rowAt k .least
   pub greatest : r .greatest ≡ rowAt k .greatest
   pub family : r .family ≡ rowAt k .family
+  pub eldest : NoneBefore (r .eldest) (rowAt k .family)
   pub named : r .named ≡ rowAt k .named
   pub ordered : r .from ≤ r .end
   pub within : r .end ≤ length keys

@@ -7,13 +7,15 @@ ghost use Prim.Native.Nat.{_<_};
 ghost use mathlib.Core.List.{_++_};
 ghost use lib.ListN.{take};
 ghost use Rattle.sheet.specs.Judge.{taken, goodNumber};
+ghost use Rattle.sheet.specs.Inner.{NoneBefore};
 ghost use Rattle.sheet.specs.Value.{numbersOf};
 
-// Whether one of these lines, the first of a sheet, has this number in this family.
-fn is_taken(earlier: &[u32], family: u8, n: u32) -> bool
+// Whether one of these lines, the first of a sheet, has this number in this family, of which none is before the eldest.
+fn is_taken(earlier: &[u32], family: u8, eldest: usize, n: u32) -> bool
+    requires { ⌜ NoneBefore eldest family ⌝ }
     ensures { λ r. ⌜ r ≡ taken family n 0 (now (earlier .entry)) ⌝ }
 {
-    let mut j = 0;
+    let mut j = eldest;
     while j < earlier.len() {
         if earlier[j] == n {
             let rule = rule_of(j);
@@ -40,7 +42,7 @@ pub fn is_good_number(numbers: &Numbers, k: usize, n: u64) -> bool
     if rule.greatest < n {
         return false;
     }
-    !is_taken(earlier, rule.family, n as u32)
+    !is_taken(earlier, rule.family, rule.eldest, n as u32)
 }
 
 // A sheet's numbers in the order of its lines, and the eight SSRCs behind them.

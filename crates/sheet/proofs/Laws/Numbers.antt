@@ -1,17 +1,20 @@
 -- Laws of a sheet's numbers: a number that is taken is found line by line, and judged against its line's bounds.
 -- Assumes nothing.
-use mathlib.Core.Path.{_≡_}
+use mathlib.Core.Path.{_≡_, refl, sym, _∙_}
+use mathlib.Core.Logic.{⊎-elim}
 use mathlib.Core.Bool.{true, false, not, _&&_, and-false}
 use mathlib.Core.List.{List}
-use Prim.Native.Nat.{ℕ, _+_, _≤_, _<_}
+use Prim.Native.Nat.{ℕ, zero, suc, _+_, _≤_, _<_}
 use native.Mathlib.Numerals.{add-one}
+use native.Mathlib.Omega.{arith}
 use lib.ListN.{length, getD, drop, drop-of-length-le}
 use lib.Seq.{drop-cons}
 use lib.Dec.{eqb, eqb→eq}
-use borrow.Author.Tests.{eq-eqb, le-leb, lt-leb}
-use Rattle.octets.proofs.Choice.{T-false, T-and-left, T-and-right}
+use borrow.Author.Tests.{eq-eqb, eqb-false, le-leb, lt-leb}
+use Rattle.octets.proofs.Choice.{le-or-lt, T-false, T-and-left, T-and-right}
 use Rattle.sheet.specs.Table.{Row, rowAt}
 use Rattle.sheet.specs.Judge.{taken, goodNumber}
+use Rattle.sheet.specs.Inner.{NoneBefore}
 
 -- ---- the numbers of a family, line by line
 
@@ -35,6 +38,18 @@ module _ (family n : ℕ) (ns : List ℕ) (j : ℕ) where
   pub taken-end : length ns ≤ j → taken family n j (drop j ns) ≡ false
   unfolding taken
   taken-end l = rw (drop-of-length-le ns l)
+
+-- a family that has no line before j is looked for from line j on
+pub taken-from : (family n : ℕ) (ns : List ℕ) (j : ℕ) → NoneBefore j family → taken family n 0 ns ≡ taken family n j (drop j ns)
+taken-from family n ns zero h = refl
+taken-from family n ns (suc j) h =
+    let e : j + 1 ≡ suc j = omega arith in
+    taken-from family n ns j (λ i l. h i (omega arith))
+    ∙ rw e at
+    (⊎-elim
+    (λ l. taken-end family n ns j l ∙ sym (taken-end family n ns (j + 1) (omega arith)))
+    (λ l. taken-skip family n ns j l (λ p q. eqb-false (rowAt j .family) family (h j (omega arith)) p))
+    (le-or-lt (length ns) j))
 
 -- ---- a number against its line's bounds and the lines before
 

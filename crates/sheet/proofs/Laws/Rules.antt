@@ -1,14 +1,14 @@
 -- Laws on the table of lines: what holds of every row is one test, computed at each. Assumes nothing.
-use mathlib.Core.Path.{_≡_, refl}
+use mathlib.Core.Path.{_≡_, refl, sym}
+use mathlib.Core.Logic.{⊎-elim}
 use mathlib.Core.Bool.{Bool, true, false, not, _&&_, Bool·beq}
-use mathlib.Core.List.{List, [], _∷_}
-use Prim.Native.Nat.{ℕ, suc, _-_, _≤_, _<_}
-use lib.ListN.{length, getD, take, drop, List·getD-eq-default}
+use Prim.Native.Nat.{ℕ, zero, suc, _-_, _≤_, _<_, zero-le}
+use native.Mathlib.Nat.{eq-or-lt-of-le}
+use lib.ListN.{length, take, drop, List·getD-eq-default}
 use lib.Dec.{T, T-not, leb, ltb, eqb, leb→le, eqb→eq}
 use Rattle.octets.specs.Choice.{same, every}
-use Rattle.octets.proofs.Choice.{T-false, T-and-left, T-and-right, same-eq, every-getD, every-getD-or, below}
+use Rattle.octets.proofs.Choice.{T-false, T-and-left, T-and-right, same-eq, every-getD, every-getD-or, allBelow, below}
 use Rattle.sheet.specs.declared.table.Rule.{Rule}
-use Rattle.sheet.specs.declared.table.Row as Coded
 use Rattle.sheet.specs.Table.{Row, table, seatRow, numberLines, rowAt}
 use Rattle.sheet.specs.Line.{lf}
 use Rattle.sheet.specs.Inner.{keys, cap, RuleOf}
@@ -46,73 +46,71 @@ key-plain k = every-row (λ (r : Row). every plainOctet (r .key)) tt tt k
 
 -- ---- the rows of the code
 
--- the code's table
-unfoldable pub rows : List Coded.Row
-rows =
-    (0, 7, 0, 4294967295, 0, false)
-    ∷ (7, 13, 1, 8, 1, false)
-    ∷ (13, 21, 0, 15, 2, false)
-    ∷ (21, 30, 0, 15, 3, false)
-    ∷ (30, 41, 0, 15, 4, false)
-    ∷ (41, 53, 0, 15, 4, false)
-    ∷ (53, 59, 0, 15, 4, false)
-    ∷ (59, 73, 0, 15, 4, false)
-    ∷ (73, 77, 0, 15, 4, false)
-    ∷ (77, 86, 15, 191, 5, false)
-    ∷ (86, 92, 1, 8, 6, false)
-    ∷ (92, 97, 0, 4294967295, 7, true)
-    ∷ []
-
--- a row as the rule that the code makes of it
-abbrev pub made : Coded.Row → Rule
-made row = record { from = row .0; end = row .1; least = row .2; greatest = row .3; family = row .4; named = row .5 }
-
 beq-eq : (a b : Bool) → T (Bool·beq a b) → a ≡ b
 beq-eq true true t = refl
 beq-eq true false t = absurd t
 beq-eq false true t = absurd t
 beq-eq false false t = refl
 
+-- line i is of another family
+unfoldable pub other : ℕ → ℕ → Bool
+other family i = not (eqb (rowAt i .family) family)
+
 -- a rule of the code is a row of the definition
-right : Row → Rule → Bool
+unfoldable pub right : Row → Rule → Bool
 right r c =
     eqb (c .least) (r .least)
     && (eqb (c .greatest) (r .greatest)
     && (eqb (c .family) (r .family)
+    && (allBelow (c .eldest) (other (r .family))
     && (Bool·beq (c .named) (r .named)
-    && (leb (c .from) (c .end) && (leb (c .end) (length keys) && same (take (c .end - c .from) (drop (c .from) keys)) (r .key))))))
+    && (leb (c .from) (c .end) && (leb (c .end) (length keys) && same (take (c .end - c .from) (drop (c .from) keys)) (r .key)))))))
 
 right-rule : (k : ℕ) (c : Rule) → T (right (rowAt k) c) → RuleOf k c
-unfolding right
+unfolding right other
 right-rule k c t =
     let r = rowAt k in
     let key = same (take (c .end - c .from) (drop (c .from) keys)) (r .key) in
     let t₆ = leb (c .end) (length keys) && key in
     let t₅ = leb (c .from) (c .end) && t₆ in
     let t₄ = Bool·beq (c .named) (r .named) && t₅ in
-    let t₃ = eqb (c .family) (r .family) && t₄ in
+    let t₀ = allBelow (c .eldest) (other (r .family)) && t₄ in
+    let t₃ = eqb (c .family) (r .family) && t₀ in
     let t₂ = eqb (c .greatest) (r .greatest) && t₃ in
     let u₂ : T t₂ = T-and-right (eqb (c .least) (r .least)) t₂ t in
     let u₃ : T t₃ = T-and-right (eqb (c .greatest) (r .greatest)) t₃ u₂ in
-    let u₄ : T t₄ = T-and-right (eqb (c .family) (r .family)) t₄ u₃ in
+    let u₀ : T t₀ = T-and-right (eqb (c .family) (r .family)) t₀ u₃ in
+    let u₄ : T t₄ = T-and-right (allBelow (c .eldest) (other (r .family))) t₄ u₀ in
     let u₅ : T t₅ = T-and-right (Bool·beq (c .named) (r .named)) t₅ u₄ in
     let u₆ : T t₆ = T-and-right (leb (c .from) (c .end)) t₆ u₅ in
     record {
       least = eqb→eq (c .least) (r .least) (T-and-left (eqb (c .least) (r .least)) t₂ t);
       greatest = eqb→eq (c .greatest) (r .greatest) (T-and-left (eqb (c .greatest) (r .greatest)) t₃ u₂);
-      family = eqb→eq (c .family) (r .family) (T-and-left (eqb (c .family) (r .family)) t₄ u₃);
+      family = eqb→eq (c .family) (r .family) (T-and-left (eqb (c .family) (r .family)) t₀ u₃);
+      eldest =
+          λ i h. T-false (eqb (rowAt i .family) (r .family))
+          (T-not (eqb (rowAt i .family) (r .family)) (below (c .eldest) (other (r .family)) (T-and-left (allBelow (c .eldest) (other (r .family))) t₄ u₀) i h));
       named = beq-eq (c .named) (r .named) (T-and-left (Bool·beq (c .named) (r .named)) t₅ u₄);
       ordered = leb→le (c .from) (c .end) (T-and-left (leb (c .from) (c .end)) t₆ u₅);
       within = leb→le (c .end) (length keys) (T-and-left (leb (c .end) (length keys)) key u₆);
       key = same-eq (take (c .end - c .from) (drop (c .from) keys)) (r .key) (T-and-right (leb (c .end) (length keys)) key u₆);
     }
 
--- the code's row of a line with a number alone is the definition's
-pub rule-number : (k : ℕ) → k < numberLines → RuleOf k (made (getD rows k (0, 0, 0, 0, 0, false)))
-unfolding numberLines table right rowAt rows keys
-rule-number k h = right-rule k _ (below 11 (λ (i : ℕ). right (rowAt i) (made (getD rows i (0, 0, 0, 0, 0, false)))) tt k h)
+-- so the code's rule of line i is that of k, which is i
+pub rule-at : (i : ℕ) (c : Rule) → T (right (rowAt i) c) → {k : ℕ} → k ≡ i → RuleOf k c
+rule-at i c t e = rw e (right-rule i c t)
 
--- and the row behind them is a seat's
-pub rule-seat : (k : ℕ) → numberLines ≤ k → RuleOf k (made (getD rows numberLines (0, 0, 0, 0, 0, false)))
-unfolding numberLines table right seatRow rows keys
-rule-seat k h = right-rule k _ (rw (rowAt-seat k h) tt)
+-- a number is none of those below n
+abbrev pub NoneBelow : ℕ → ℕ → Type 0
+NoneBelow zero k = Unit {0}
+NoneBelow (suc n) k = NoneBelow n k × (k ≡ n → ⊥)
+
+-- so it is n or more
+none-below : (n k : ℕ) → NoneBelow n k → n ≤ k
+none-below zero k h = zero-le
+none-below (suc n) k h =
+    ⊎-elim (λ e. absurd (h .1 (sym e))) (λ l. l) (eq-or-lt-of-le (none-below n k (h .0)))
+
+-- and the code's rule of every other line is a seat's
+pub rule-seat : (c : Rule) → T (right seatRow c) → {k : ℕ} → NoneBelow numberLines k → RuleOf k c
+rule-seat c t {k} h = right-rule k c (rw (rowAt-seat k (none-below numberLines k h)) t)

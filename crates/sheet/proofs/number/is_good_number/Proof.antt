@@ -43,7 +43,9 @@ cast-is-taken c =
     omega (arith, rule .rule-of .ensures .greatest, greatest-cap (rule .before .before .before .args .k))
 
 is-taken-requires : tie.Need-is-taken-requires
-is-taken-requires c κs = search needs
+is-taken-requires c κs =
+    let rule = c .before .before .before .before in
+    rw (rule .rule-of .ensures .family) (rule .rule-of .ensures .eldest)
 
 returns-3 : tie.Need-returns-3
 returns-3 c =

@@ -1,24 +1,27 @@
--- `sheet::number::is_taken` meets its contract. The invariant: the number is taken just if it is on the lines from j on.
+-- `sheet::number::is_taken` meets its contract. The invariant: the number is taken just if it is on the lines from j on, and
+-- no line before the eldest is of the family.
 -- Assumes nothing.
-use mathlib.Core.Path.{_≡_, refl, sym, _∙_}
+use mathlib.Core.Path.{_≡_, sym, _∙_}
 use mathlib.Core.Logic.{⊎-elim}
 use Prim.Native.Nat.{_-_}
 use borrow.Author.Needs.{needs}
 use native.Mathlib.Omega.{arith}
 use lib.ListN.{length, drop}
 use Rattle.sheet.specs.Judge.{taken}
-use Rattle.sheet.proofs.Laws.Numbers.{taken-here, taken-skip, taken-end}
+use Rattle.sheet.proofs.Laws.Numbers.{taken-here, taken-skip, taken-end, taken-from}
 use Rattle.sheet.proofs.number.is_taken.Statement.{statement}
 use Rattle.sheet.proofs.number.is_taken.Tie as tie
 
 abbrev Inv-loop : tie.InvT-loop
-Inv-loop earlier family n j₀ j = taken family n 0 earlier ≡ taken family n j (drop j earlier)
+Inv-loop earlier family eldest n j₀ j = taken family n 0 earlier ≡ taken family n j (drop j earlier)
 
 abbrev μ-loop : tie.MeasureT-loop
-μ-loop earlier family n j₀ j = length earlier - j
+μ-loop earlier family eldest n j₀ j = length earlier - j
 
 loop-holds : tie.Need-loop-holds Inv-loop μ-loop
-loop-holds c = refl
+loop-holds c =
+    let a = c .before .args in
+    taken-from (a .family) (a .n) (a .earlier .now) (a .eldest) (c .before .pre)
 
 mul-if1 : tie.Need-mul-if1 Inv-loop μ-loop
 mul-if1 c = search needs
