@@ -34,6 +34,11 @@ abbrev pub some-of {ℓ} : {A : Type ℓ} → (A → Bool) → List A → Bool
 some-of p [] = false
 some-of p (x ∷ xs) = p x || some-of p xs
 
+-- the elements of which the test holds
+abbrev pub keep {ℓ} : {A : Type ℓ} → (A → Bool) → List A → List A
+keep p [] = []
+keep p (x ∷ xs) = pick (p x) (x ∷ keep p xs) (keep p xs)
+
 -- the longest front of the list of which the test holds
 abbrev pub front : (ℕ → Bool) → List ℕ → List ℕ
 front p [] = []

@@ -1,0 +1,15 @@
+pub mod Walk
+pub mod Step
+pub mod Layouts
+pub mod Letters
+pub mod Kinds
+pub mod Judging
+pub mod Allowed
+pub mod Accepts
+pub mod NamesInside
+pub mod Sound
+pub mod Unused
+pub mod Values
+pub mod Slots
+pub mod Places
+pub mod Judged

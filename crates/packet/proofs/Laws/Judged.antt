@@ -1,0 +1,197 @@
+-- Laws of judging a packet's fields in their order: what is known at each place of a walk that goes to the end. Assumes nothing.
+use mathlib.Core.Path.{_≡_, refl, sym, _∙_}
+use mathlib.Core.Bool.{true, false, _&&_}
+use mathlib.Core.List.{List, [], _∷_, _++_, append-nil, append-assoc}
+use mathlib.Core.Option.{none, some}
+use Prim.Native.Nat.{ℕ, zero, suc, _+_, _≤_, _<_}
+use native.Mathlib.Omega.{arith}
+use lib.ListN.{length, getD, set, replicate}
+use lib.Dec.{T, leb, ltb, eqb, le→leb, lt→ltb}
+use borrow.Author.Tests.{eq-eqb, ne-eqb}
+use Rattle.octets.specs.Choice.{pick, every}
+use Rattle.octets.specs.Big.{bigAt}
+use Rattle.octets.proofs.Choice.{T-and, every-append}
+use Rattle.packet.specs.declared.field.Field.{Field}
+use Rattle.packet.specs.declared.kind.Slot.{Slot}
+use Rattle.packet.specs.declared.judge.Use.the-variants.{Fills, Repeats, Skipped}
+use Rattle.packet.specs.Header.{firstField}
+use Rattle.packet.specs.Walk.{valueEnd, nextAt, fieldRight, fieldAt, fieldsFrom, stopFrom, fieldsOf}
+use Rattle.packet.specs.Judge.{fits, numberAt, fieldsWith, grantIn, granted, atFault, faultAmong, missingAt, firstOf, faultOf}
+use Rattle.packet.specs.Inner.{Walked, JudgedIs, placesIn, PlacesInside, placed, openIn, lackIn}
+use Rattle.packet.proofs.Laws.Walk.{next-after, valueEnd-next, right-next, right-end, fieldsFrom-right, fieldsFrom-wrong, stopFrom-right, stopFrom-whole}
+use Rattle.packet.proofs.Laws.Slots.{blank}
+use Rattle.packet.proofs.Laws.Places.{standing, places-none, inside-places, lackIn-places, useIn, fills-inside, fills-fault, fills-places, repeats-fault, skipped-fault, skipped-places}
+
+-- ---- where a right field lies
+
+-- it is four octets long at least, and its value ends in the packet
+pub right-inside : (p : List ℕ) (at : ℕ) → T (fieldRight p at) → (at + 4 ≤ length p) × (at + 2 + getD p (at + 1) 0 ≤ length p)
+unfolding valueEnd
+right-inside p at t =
+    let next = right-next p at t in
+    let least = next-after p at in
+    let value = valueEnd-next p at in
+    (omega arith, omega arith)
+
+-- at a place of a walk that goes to the end: the next one's place
+pub whole-next : (p : List ℕ) (at : ℕ) → stopFrom p at ≡ length p → at < length p → (at + 4 ≤ nextAt p at) × (nextAt p at ≤ length p)
+whole-next p at e h = (next-after p at, right-next p at (stopFrom-whole p at e h))
+
+-- ---- the first Result among the fields from a place on
+
+module _ (p : List ℕ) (at id : ℕ) where
+  -- no field is left
+  pub granted-end : length p ≤ at → granted p id (fieldsFrom p at) ≡ false
+  unfolding granted fieldsWith grantIn
+  granted-end h = rw (fieldsFrom-wrong p at (right-end p at h))
+
+  -- the field there is the first Result
+  pub granted-first : T (fieldRight p at) → getD p at 0 ≡ id
+      → granted p id (fieldsFrom p at) ≡ (eqb (getD p (at + 1) 0) 2 && eqb (bigAt 2 p (at + 2)) 1)
+  unfolding granted fieldsWith grantIn fieldAt numberAt
+  granted-first t e = rw (fieldsFrom-right p at t, eq-eqb (getD p at 0) id e)
+
+  -- it is another field
+  pub granted-next : T (fieldRight p at) → (getD p at 0 ≡ id → ⊥) → granted p id (fieldsFrom p at) ≡ granted p id (fieldsFrom p (nextAt p at))
+  unfolding granted fieldsWith fieldAt
+  granted-next t n = rw (fieldsFrom-right p at t, ne-eqb (getD p at 0) id n)
+
+-- ---- the fields before a place are judged
+
+-- none of them is at fault, and these are their places
+pub record Judging (p : List ℕ) (slots : List Slot) (places : List ℕ) (at : ℕ) : Type 0 where
+  pub before : List Field
+  pub stands : T (every (standing p) before)
+  pub theirs : places ≡ placesIn slots before
+  pub judged : faultAmong p slots [] (fieldsOf p) ≡ faultAmong p slots before (fieldsFrom p at)
+  pub all : before ++ fieldsFrom p at ≡ fieldsOf p
+  pub whole : stopFrom p at ≡ length p
+  pub least : firstField ≤ at
+
+-- nothing is judged yet
+pub judging-first : (p : List ℕ) (slots : List Slot) → Walked p → Judging p slots (replicate (length slots) 0) firstField
+unfolding fieldsOf
+judging-first p slots w =
+    record {
+      before = [];
+      stands = tt;
+      theirs = sym (places-none slots);
+      judged = refl;
+      all = refl;
+      whole = w .whole;
+      least = omega arith;
+    }
+
+-- a place that is not 0
+placed-some : (n : ℕ) → 0 < n → placed n ≡ some n
+placed-some zero h = absurd (omega arith)
+placed-some (suc n) h = refl
+
+module _ {p : List ℕ} {slots : List Slot} {places : List ℕ} {at : ℕ} (j : Judging p slots places at) where
+  -- the places are in the packet
+  judging-inside : 12 ≤ length p → PlacesInside p places
+  judging-inside h = rw (j .theirs) (inside-places p (j .before) (j .stands) (omega arith) slots)
+
+  module _ (h : at < length p) where
+    -- there is a field at the place
+    pub judging-right : T (fieldRight p at)
+    judging-right = stopFrom-whole p at (j .whole) h
+
+    -- it goes before those from the next on
+    judging-fields : fieldsFrom p at ≡ fieldAt p at ∷ fieldsFrom p (nextAt p at)
+    judging-fields = fieldsFrom-right p at judging-right
+
+    -- it stands in the packet, and not at 0
+    judging-standing : T (standing p (fieldAt p at))
+    unfolding fieldAt
+    judging-standing =
+        T-and (ltb 0 at) (leb (at + 4) (length p))
+        (lt→ltb 0 at (omega (arith, j .least)))
+        (le→leb (at + 4) (length p) (right-inside p at judging-right .0))
+
+    -- it is not at fault: all before the next are judged
+    judging-next : (places′ : List ℕ) → atFault p slots (j .before) (fieldAt p at) ≡ false → placesIn slots (j .before ++ (fieldAt p at ∷ [])) ≡ places′
+        → Judging p slots places′ (nextAt p at)
+    unfolding faultAmong
+    judging-next places′ e q =
+        record {
+          before = j .before ++ (fieldAt p at ∷ []);
+          stands = rw (every-append (standing p) (j .before) (fieldAt p at ∷ []))
+              (T-and (every (standing p) (j .before)) (every (standing p) (fieldAt p at ∷ [])) (j .stands) (T-and (standing p (fieldAt p at)) true judging-standing tt));
+          theirs = sym q;
+          judged = j .judged ∙ rw (judging-fields, e);
+          all = append-assoc (j .before) (fieldAt p at ∷ []) (fieldsFrom p (nextAt p at)) ∙ rw (← judging-fields) (j .all);
+          whole = sym (stopFrom-right p at judging-right) ∙ j .whole;
+          least = omega (arith, j .least, next-after p at);
+        }
+
+    -- it is at fault, and the first
+    judged-fault : atFault p slots (j .before) (fieldAt p at) ≡ true → JudgedIs p slots (record { fault = at; places = places })
+    unfolding faultOf firstOf faultAmong fieldAt
+    judged-fault e =
+        record {
+          fault = rw (j .judged, judging-fields, e) (sym (placed-some at (omega (arith, j .least))));
+          places = λ z. absurd (omega (arith, j .least));
+          inside = judging-inside (omega (arith, j .least));
+        }
+
+    -- what it is for
+    judging-use : useIn slots (j .before) (fieldAt p at) ≡ openIn slots places (getD p at 0)
+    unfolding fieldAt
+    judging-use = rw (j .theirs)
+
+    module _ (i : ℕ) (e : openIn slots places (getD p at 0) ≡ Fills i) where
+      -- it fills a slot that there is
+      pub judging-slot : i < length slots
+      judging-slot = fills-inside p slots (j .before) (fieldAt p at) (j .stands) i (judging-use ∙ e)
+
+      -- and has its form
+      pub judging-fills : fits (getD slots i blank .form) p (fieldAt p at) ≡ true → Judging p slots (set places i at) (nextAt p at)
+      judging-fills q =
+          judging-next (set places i at)
+          (fills-fault p slots (j .before) (fieldAt p at) (j .stands) i (judging-use ∙ e) ∙ rw q)
+          (fills-places p slots (j .before) (fieldAt p at) (j .stands) i (judging-use ∙ e) ∙ unfold fieldAt in rw (j .theirs))
+
+      -- and does not have it
+      pub judged-wrong : fits (getD slots i blank .form) p (fieldAt p at) ≡ false → JudgedIs p slots (record { fault = at; places = places })
+      judged-wrong q = judged-fault (fills-fault p slots (j .before) (fieldAt p at) (j .stands) i (judging-use ∙ e) ∙ rw q)
+
+    -- it is a repeat
+    pub judged-repeat : openIn slots places (getD p at 0) ≡ Repeats → JudgedIs p slots (record { fault = at; places = places })
+    judged-repeat e = judged-fault (repeats-fault p slots (j .before) (fieldAt p at) (j .stands) (judging-use ∙ e))
+
+    -- the message has no use for it
+    pub judging-skips : openIn slots places (getD p at 0) ≡ Skipped → Judging p slots places (nextAt p at)
+    judging-skips e =
+        judging-next places
+        (skipped-fault p slots (j .before) (fieldAt p at) (j .stands) (judging-use ∙ e))
+        (skipped-places p slots (j .before) (fieldAt p at) (j .stands) (judging-use ∙ e) ∙ sym (j .theirs))
+
+  module _ (h : length p ≤ at) (l : firstField ≤ length p) where
+    -- the end is reached: all fields are judged
+    judging-all : j .before ≡ fieldsOf p
+    judging-all = sym (append-nil (j .before)) ∙ rw (← fieldsFrom-wrong p at (right-end p at h)) (j .all)
+
+    -- whether one is missing
+    judging-end : faultOf p slots (fieldsOf p) ≡ pick (lackIn slots places) (some (length p)) none
+    unfolding faultOf firstOf faultAmong missingAt
+    judging-end =
+        rw (j .judged, fieldsFrom-wrong p at (right-end p at h), ← judging-all, j .theirs, lackIn-places p (j .before) (j .stands) slots)
+
+    -- one is
+    pub judged-lacking : lackIn slots places ≡ true → JudgedIs p slots (record { fault = length p; places = places })
+    judged-lacking e =
+        record {
+          fault = judging-end ∙ rw e (sym (placed-some (length p) (omega arith)));
+          places = λ z. absurd (omega arith);
+          inside = judging-inside l;
+        }
+
+    -- none is
+    pub judged-right : lackIn slots places ≡ false → JudgedIs p slots (record { fault = 0; places = places })
+    judged-right e =
+        record {
+          fault = judging-end ∙ rw e;
+          places = λ z. rw (← judging-all) (j .theirs);
+          inside = judging-inside l;
+        }

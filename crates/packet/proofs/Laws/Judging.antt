@@ -1,0 +1,293 @@
+-- Laws of judging fields against slots, ID by ID: no field is at fault exactly if the fields with each ID in use fit the slots with that
+-- ID one by one, and each slot is filled by the first that those before it leave. Assumes nothing.
+use mathlib.Core.Path.{_≡_, refl}
+use mathlib.Core.Logic.{_↔_, ⊎-elim}
+use mathlib.Core.Bool.{Bool, true, false, not, _&&_, _||_}
+use mathlib.Core.List.{List, [], _∷_, _++_, map}
+use mathlib.Core.Option.{Option, none, some, Option·some-ne-none}
+use Prim.Native.Nat.{ℕ, zero, suc, _≤_, zero-le, suc-le-suc}
+use lib.ListN.{length, getD, getElem?, drop, length-append}
+use lib.Seq.{drop-drop}
+use lib.Dec.{T, eqb, eqb→eq, eqb-refl}
+use Rattle.octets.specs.Choice.{pick, every, keep, some-of}
+use Rattle.octets.proofs.Choice.{T-true, false-T, decide, T-and, T-and-left, T-and-right, pick-cases}
+use Rattle.packet.specs.declared.field.Field.{Field}
+use Rattle.packet.specs.declared.kind.Form.the-variants.{Barred}
+use Rattle.packet.specs.declared.kind.Slot.{Slot}
+use Rattle.packet.specs.Judge.{fits, fieldsWith, slotsWith, formFor, atFault, faultAmong, filledBehind, filledIn, lacking, missingAt, firstOf, faultOf}
+
+-- ---- tests
+
+-- the one holds and the other does not: that is false exactly if the other holds where the one does
+unless : (a b : Bool) → ((a && not b) ≡ false) ↔ (T a → T b)
+unless true true = ((λ e t. tt), (λ h. refl))
+unless true false = ((λ e t. false-T true e tt), (λ h. absurd (h tt)))
+unless false b = ((λ e t. absurd t), (λ h. refl))
+
+-- the one does not hold or the other does exactly if the other holds where the one does
+implies : (a b : Bool) → T (not a || b) ↔ (T a → T b)
+implies true b = ((λ t u. t), (λ h. h tt))
+implies false b = ((λ t u. absurd u), (λ h. tt))
+
+-- neither holds
+pub or-false-both : (a b : Bool) → (a || b) ≡ false → (a ≡ false) × (b ≡ false)
+or-false-both true b e = absurd (false-T true e tt)
+or-false-both false b e = (refl, e)
+
+-- ---- keep: the elements of which a test holds
+
+module _ {A : Type 0} (p : A → Bool) where
+  -- of two lists, one after the other
+  pub keep-append : (xs ys : List A) → keep p (xs ++ ys) ≡ keep p xs ++ keep p ys
+  keep-append [] ys = refl
+  keep-append (x ∷ xs) ys =
+      pick-cases (λ l. pick (p x) (x ∷ keep p (xs ++ ys)) (keep p (xs ++ ys)) ≡ l ++ keep p ys) (p x) (x ∷ keep p xs) (keep p xs)
+      (λ t. rw (T-true (p x) t, keep-append xs ys))
+      (λ e. rw (e, keep-append xs ys))
+
+  -- the test holds of each of them
+  pub every-keep : (xs : List A) → T (every p (keep p xs))
+  every-keep [] = tt
+  every-keep (x ∷ xs) =
+      pick-cases (λ l. T (every p l)) (p x) (x ∷ keep p xs) (keep p xs) (λ t. T-and (p x) (every p (keep p xs)) t (every-keep xs)) (λ e. every-keep xs)
+
+  -- a test that holds of each element holds of each that another keeps
+  pub every-kept : (q : A → Bool) (xs : List A) → T (every q xs) → T (every q (keep p xs))
+  every-kept q [] t = t
+  every-kept q (x ∷ xs) t =
+      let rest = every-kept q xs (T-and-right (q x) (every q xs) t) in
+      pick-cases (λ l. T (every q l)) (p x) (x ∷ keep p xs) (keep p xs) (λ u. T-and (q x) (every q (keep p xs)) (T-and-left (q x) (every q xs) t) rest) (λ e. rest)
+
+  -- it holds of none, so none is kept
+  pub keep-none : (xs : List A) → some-of p xs ≡ false → keep p xs ≡ []
+  keep-none [] e = refl
+  keep-none (x ∷ xs) e =
+      let both = or-false-both (p x) (some-of p xs) e in
+      rw (both .0) (keep-none xs (both .1))
+
+  -- of what another test keeps: all, or nothing, where that test is the same on each
+  pub keep-keep : (q : A → Bool) (b : Bool) → ((x : A) → T (p x) → q x ≡ b) → (xs : List A) → keep p (keep q xs) ≡ pick b (keep p xs) []
+  keep-keep q true h [] = refl
+  keep-keep q false h [] = refl
+  keep-keep q b h (x ∷ xs) =
+      ⊎-elim
+      (λ t. rw (h x t) (kept b (T-true (p x) t) (keep-keep q b h xs)))
+      (λ e. pick-cases (λ l. keep p l ≡ pick b (pick (p x) (x ∷ keep p xs) (keep p xs)) []) (q x) (x ∷ keep q xs) (keep q xs)
+      (λ t. rw e (keep-keep q b h xs))
+      (λ f. rw e (keep-keep q b h xs)))
+      (decide (p x))
+    where
+      kept : (c : Bool) → p x ≡ true → keep p (keep q xs) ≡ pick c (keep p xs) []
+          → keep p (pick c (x ∷ keep q xs) (keep q xs)) ≡ pick c (pick (p x) (x ∷ keep p xs) (keep p xs)) []
+      kept true t e = rw (t, e)
+      kept false t e = e
+
+  -- what is left behind so many, with one element more
+  pub drop-keep-snoc : {B : Type 0} (xs : List A) (x : A) (l : List B)
+      → drop (length (keep p (xs ++ (x ∷ [])))) l ≡ pick (p x) (drop 1 (drop (length (keep p xs)) l)) (drop (length (keep p xs)) l)
+  drop-keep-snoc xs x l =
+      rw (keep-append xs (x ∷ []), length-append, ← drop-drop)
+      (pick-cases (λ k. drop (length k) (drop (length (keep p xs)) l) ≡ pick (p x) (drop 1 (drop (length (keep p xs)) l)) (drop (length (keep p xs)) l)) (p x) (x ∷ []) []
+      (λ t. rw (T-true (p x) t))
+      (λ e. rw e))
+
+-- an element is the first of what is left behind those before it
+pub getElem?-drop : {A : Type 0} (n : ℕ) (l : List A) → getElem? l n ≡ getElem? (drop n l) 0
+getElem?-drop zero l = refl
+getElem?-drop (suc n) [] = refl
+getElem?-drop (suc n) (x ∷ l) = getElem?-drop n l
+
+-- a test that holds of each element holds of each that is left
+pub every-drop : {A : Type 0} (p : A → Bool) (n : ℕ) (l : List A) → T (every p l) → T (every p (drop n l))
+every-drop p zero l t = t
+every-drop p (suc n) [] t = t
+every-drop p (suc n) (x ∷ l) t = every-drop p n l (T-and-right (p x) (every p l) t)
+
+-- ---- fields and slots with an ID
+
+-- a test that holds of each field with each ID holds of each field
+pub fieldsWith-every : (q : Field → Bool) (fs : List Field) → ((id : ℕ) → T (every q (fieldsWith id fs))) → T (every q fs)
+unfolding fieldsWith
+fieldsWith-every q [] h = tt
+fieldsWith-every q (f ∷ fs) h =
+    let own = rw (T-true (eqb (f .id) (f .id)) (eqb-refl (f .id))) at (h (f .id)) in
+    T-and (q f) (every q fs) (T-and-left (q f) (every q (fieldsWith (f .id) fs)) own)
+    (fieldsWith-every q fs
+    (λ id. pick-cases (λ l. T (every q l) → T (every q (fieldsWith id fs))) (eqb (f .id) id) (f ∷ fieldsWith id fs) (fieldsWith id fs)
+    (λ u t. T-and-right (q f) (every q (fieldsWith id fs)) t)
+    (λ e t. t)
+    (h id)))
+
+-- a slot with the ID goes before those behind it
+pub slotsWith-own : (id : ℕ) (s : Slot) (slots : List Slot) → T (eqb (s .id) id) → slotsWith id (s ∷ slots) ≡ s ∷ slotsWith id slots
+unfolding slotsWith
+slotsWith-own id s slots t = rw (T-true (eqb (s .id) id) t)
+
+-- one with another does not count
+pub slotsWith-other : (id : ℕ) (s : Slot) (slots : List Slot) → eqb (s .id) id ≡ false → slotsWith id (s ∷ slots) ≡ slotsWith id slots
+unfolding slotsWith
+slotsWith-other id s slots e = rw e
+
+-- an ID is that of a slot
+abbrev pub inUse : ℕ → List Slot → Bool
+inUse id slots = some-of (λ (s : Slot). eqb (s .id) id) slots
+
+-- no slot has an ID that is not in use
+pub slotsWith-none : (id : ℕ) (slots : List Slot) → inUse id slots ≡ false → slotsWith id slots ≡ []
+unfolding slotsWith
+slotsWith-none id slots e = keep-none (λ (s : Slot). eqb (s .id) id) slots e
+
+-- ---- fields that fit slots one by one
+
+-- each field has the form of its slot, and there are no more fields than slots
+abbrev pub fitting : List ℕ → List Slot → List Field → Bool
+fitting p slots [] = true
+fitting p [] (f ∷ fs) = false
+fitting p (s ∷ slots) (f ∷ fs) = fits (s .form) p f && fitting p slots fs
+
+-- there are no more fields than slots
+pub fitting-length : (p : List ℕ) (slots : List Slot) (fs : List Field) → T (fitting p slots fs) → length fs ≤ length slots
+fitting-length p slots [] t = zero-le
+fitting-length p [] (f ∷ fs) t = absurd t
+fitting-length p (s ∷ slots) (f ∷ fs) t =
+    suc-le-suc (fitting-length p slots fs (T-and-right (fits (s .form) p f) (fitting p slots fs) t))
+
+-- behind the first of each the others fit
+pub fitting-rest : (p : List ℕ) (s : Slot) (slots : List Slot) (fs : List Field) → T (fitting p (s ∷ slots) fs) → T (fitting p slots (drop 1 fs))
+fitting-rest p s slots [] t = tt
+fitting-rest p s slots (f ∷ fs) t = T-and-right (fits (s .form) p f) (fitting p slots fs) t
+
+-- the first field has the form of the slot at its place, and the others fit those behind it
+pub fitting-drop : (p : List ℕ) (n : ℕ) (slots : List Slot) (f : Field) (fs : List Field)
+    → fitting p (drop n slots) (f ∷ fs) ≡ (fits (getD (map (λ (s : Slot). s .form) slots) n Barred) p f && fitting p (drop 1 (drop n slots)) fs)
+unfolding fits
+fitting-drop p zero [] f fs = refl
+fitting-drop p zero (s ∷ slots) f fs = refl
+fitting-drop p (suc n) [] f fs = refl
+fitting-drop p (suc n) (s ∷ slots) f fs = fitting-drop p n slots f fs
+
+-- ---- no field at fault
+
+-- of two faults there is none exactly if there is neither
+firstOf-none : (a b : Option ℕ) → (firstOf a b ≡ none) ↔ ((a ≡ none) × (b ≡ none))
+unfolding firstOf
+firstOf-none none b = ((λ e. (refl, e)), (λ h. h .1))
+firstOf-none (some at) b = ((λ e. absurd (Option·some-ne-none at e)), (λ h. h .0))
+
+-- a place by a test: there is none exactly if the test is false
+pick-none : (b : Bool) (at : ℕ) → (pick b (some at) none ≡ none) ↔ (b ≡ false)
+pick-none true at = ((λ e. absurd (Option·some-ne-none at e)), (λ e. absurd (false-T true e tt)))
+pick-none false at = ((λ e. refl), (λ e. refl))
+
+module _ (p : List ℕ) (slots : List Slot) where
+  -- the slots with an ID behind those that fields fill
+  abbrev openSlots : ℕ → List Field → List Slot
+  openSlots id before = drop (length (fieldsWith id before)) (slotsWith id slots)
+
+  -- behind fields before, those with each ID in use fit the slots that are open
+  abbrev Fit : List Field → List Field → Type 0
+  Fit before fs = (id : ℕ) → T (inUse id slots) → T (fitting p (openSlots id before) (fieldsWith id fs))
+
+  module _ (before : List Field) (f : Field) (fs : List Field) where
+    -- the first field, if it has the ID, fits the first slot that is open ..
+    abbrev own : ℕ → Bool
+    own id = not (eqb (f .id) id) || fits (formFor slots before f) p f
+
+    -- .. and the others the others
+    abbrev others : ℕ → Bool
+    others id = fitting p (openSlots id (before ++ (f ∷ []))) (fieldsWith id fs)
+
+    -- those with the ID fit exactly if both do
+    fitting-step : (id : ℕ) → fitting p (openSlots id before) (fieldsWith id (f ∷ fs)) ≡ (own id && others id)
+    unfolding fieldsWith formFor
+    fitting-step id =
+        rw (drop-keep-snoc (λ (g : Field). eqb (g .id) id) before f (slotsWith id slots))
+        (⊎-elim
+        (λ t. rw (T-true (eqb (f .id) id) t)
+        (rw (← eqb→eq (f .id) id t) (fitting-drop p (length (fieldsWith (f .id) before)) (slotsWith (f .id) slots) f (fieldsWith (f .id) fs))))
+        (λ e. rw e)
+        (decide (eqb (f .id) id)))
+
+    -- the first is not at fault exactly if it has its form where its ID is in use
+    fault-fits : (atFault p slots before f ≡ false) ↔ (T (inUse (f .id) slots) → T (fits (formFor slots before f) p f))
+    unfolding atFault
+    fault-fits = unless (inUse (f .id) slots) (fits (formFor slots before f) p f)
+
+    -- they fit, so the first is not at fault ..
+    fit-first : Fit before (f ∷ fs) → atFault p slots before f ≡ false
+    fit-first h =
+        fault-fits .1
+        (λ u. implies (eqb (f .id) (f .id)) (fits (formFor slots before f) p f) .0
+        (T-and-left (own (f .id)) (others (f .id)) (rw (fitting-step (f .id)) at (h (f .id) u)))
+        (eqb-refl (f .id)))
+
+    -- .. and those behind it fit
+    fit-rest : Fit before (f ∷ fs) → Fit (before ++ (f ∷ [])) fs
+    fit-rest h id u = T-and-right (own id) (others id) (rw (fitting-step id) at (h id u))
+
+    -- the first is not at fault, and those behind it fit
+    fit-cons : atFault p slots before f ≡ false → Fit (before ++ (f ∷ [])) fs → Fit before (f ∷ fs)
+    fit-cons e h id u =
+        rw (fitting-step id)
+        (T-and (own id) (others id)
+        (implies (eqb (f .id) id) (fits (formFor slots before f) p f) .1 (λ t. fault-fits .0 e (rw (eqb→eq (f .id) id t) u)))
+        (h id u))
+
+  -- none is at fault, so they fit
+  faultAmong-fit : (before fs : List Field) → faultAmong p slots before fs ≡ none → Fit before fs
+  unfolding faultAmong fieldsWith
+  faultAmong-fit before [] e = λ id u. tt
+  faultAmong-fit before (f ∷ fs) e =
+      pick-cases (λ o. o ≡ none → Fit before (f ∷ fs)) (atFault p slots before f) (some (f .at)) (faultAmong p slots (before ++ (f ∷ [])) fs)
+      (λ t c. absurd (Option·some-ne-none (f .at) c))
+      (λ q c. fit-cons before f fs q (faultAmong-fit (before ++ (f ∷ [])) fs c))
+      e
+
+  -- they fit, so none is at fault
+  fit-faultAmong : (before fs : List Field) → Fit before fs → faultAmong p slots before fs ≡ none
+  unfolding faultAmong
+  fit-faultAmong before [] h = refl
+  fit-faultAmong before (f ∷ fs) h = rw (fit-first before f fs h) (fit-faultAmong (before ++ (f ∷ [])) fs (fit-rest before f fs h))
+
+  -- no field is at fault or missing exactly if those with each ID in use fit the slots with that ID, and no slot lacks its field
+  pub faultOf-none : (fs : List Field)
+      → (faultOf p slots fs ≡ none)
+      ↔ (((id : ℕ) → T (inUse id slots) → T (fitting p (slotsWith id slots) (fieldsWith id fs))) × (some-of lacking (filledIn slots fs) ≡ false))
+  unfolding faultOf missingAt fieldsWith
+  faultOf-none fs =
+      let both = firstOf-none (faultAmong p slots [] fs) (missingAt p (filledIn slots fs)) in
+      let full = pick-none (some-of lacking (filledIn slots fs)) (length p) in
+      (λ e. (faultAmong-fit [] fs (both .0 e .0), full .0 (both .0 e .1)), λ h. both .1 (fit-faultAmong [] fs (h .0), full .1 (h .1)))
+
+-- ---- slots and the fields that fill them
+
+-- the fields with an ID behind those that slots before take
+abbrev pub leftFor : ℕ → List Slot → List Field → List Field
+leftFor id earlier fs = drop (length (slotsWith id earlier)) (fieldsWith id fs)
+
+-- each of them has that ID
+pub every-leftFor : (id : ℕ) (earlier : List Slot) (fs : List Field) → T (every (λ (f : Field). eqb (f .id) id) (leftFor id earlier fs))
+unfolding fieldsWith
+every-leftFor id earlier fs =
+    every-drop (λ (f : Field). eqb (f .id) id) (length (slotsWith id earlier)) (fieldsWith id fs) (every-keep (λ (f : Field). eqb (f .id) id) fs)
+
+-- behind one slot more the first of them is taken, if it has the ID
+pub leftFor-snoc : (id : ℕ) (earlier : List Slot) (s : Slot) (fs : List Field)
+    → leftFor id (earlier ++ (s ∷ [])) fs ≡ pick (eqb (s .id) id) (drop 1 (leftFor id earlier fs)) (leftFor id earlier fs)
+unfolding slotsWith
+leftFor-snoc id earlier s fs = drop-keep-snoc (λ (r : Slot). eqb (r .id) id) earlier s (fieldsWith id fs)
+
+-- the first slot is filled by the first of them
+pub filledBehind-cons : (earlier : List Slot) (s : Slot) (slots : List Slot) (fs : List Field)
+    → filledBehind earlier (s ∷ slots) fs ≡ record { slot = s; by = getElem? (leftFor (s .id) earlier fs) 0 } ∷ filledBehind (earlier ++ (s ∷ [])) slots fs
+unfolding filledBehind
+filledBehind-cons earlier s slots fs = rw (getElem?-drop (length (slotsWith (s .id) earlier)) (fieldsWith (s .id) fs))
+
+-- behind one slot more the fields left fit the slots left
+pub fitting-next : (p : List ℕ) (id : ℕ) (earlier : List Slot) (s : Slot) (slots : List Slot) (fs : List Field)
+    → T (fitting p (slotsWith id (s ∷ slots)) (leftFor id earlier fs)) → T (fitting p (slotsWith id slots) (leftFor id (earlier ++ (s ∷ [])) fs))
+fitting-next p id earlier s slots fs t =
+    rw (leftFor-snoc id earlier s fs)
+    (pick-cases (λ l. T (fitting p (slotsWith id slots) l)) (eqb (s .id) id) (drop 1 (leftFor id earlier fs)) (leftFor id earlier fs)
+    (λ u. fitting-rest p s (slotsWith id slots) (leftFor id earlier fs) (rw (slotsWith-own id s slots u) at t))
+    (λ e. rw (slotsWith-other id s slots e) at t))

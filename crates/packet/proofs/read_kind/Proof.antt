@@ -1,0 +1,83 @@
+-- `packet::read_kind` meets its contract: judging finds a fault, or the places by which the message has its values.
+-- Assumes nothing.
+use mathlib.Core.Path.{_≡_, refl, sym, ap, _∙_}
+use mathlib.Core.Bool.{_&&_}
+use mathlib.Core.List.{List}
+use mathlib.Core.Option.{some}
+use Prim.Native.Nat.{ℕ, zero, suc}
+use borrow.Author.Needs.{needs}
+use borrow.Author.Tests.{eq-eqb}
+use denote.Ref.{now}
+use lib.ListN.{length}
+use lib.Dec.{T, eqb}
+use Rattle.octets.proofs.Choice.{true-T}
+use Rattle.packet.specs.Header.{firstField}
+use Rattle.packet.specs.Walk.{fieldsOf, stopFrom, whole}
+use Rattle.packet.specs.Judge.{granted}
+use Rattle.packet.specs.Inner.{Walked, JudgedIs, placed, slotsNumbered}
+use Rattle.packet.proofs.Laws.Values.{readAs-faulty, readAs-right}
+use Rattle.packet.proofs.read_kind.Statement.{statement}
+use Rattle.packet.proofs.read_kind.Tie as tie
+
+-- a packet that was walked over is whole
+walked-whole : (p : List ℕ) → Walked p → T (whole p)
+unfolding whole
+walked-whole p w = true-T (eqb (stopFrom p firstField) (length p)) (eq-eqb (stopFrom p firstField) (length p) (w .whole))
+
+-- a place that is not 0 is one
+placed-some : (n : ℕ) → (n ≡ 0 → ⊥) → placed n ≡ some n
+placed-some zero h = absurd (h refl)
+placed-some (suc n) h = refl
+
+is-granted-requires : tie.Need-is-granted-requires
+is-granted-requires c κs = search needs
+
+slots-of-requires : tie.Need-slots-of-requires
+slots-of-requires c κs = search needs
+
+judge-requires : tie.Need-judge-requires
+judge-requires c κs = search needs
+
+refused-requires : tie.Need-refused-requires
+refused-requires c κs = search needs
+
+-- what was judged: the slots of the kind, once it is known whether the Result is 1
+judged : (c : tie.After-judge)
+    → let a = c .before .before .before .before .args in
+    JudgedIs (now (a .packet)) (slotsNumbered (a .numbers) (a .kind) (eqb (a .kind) 2 && granted (now (a .packet)) (a .numbers .resultid) (fieldsOf (now (a .packet))))) (c .judge .result)
+judged c = rw (c .before .slots-of .ensures, c .before .before .is-granted .ensures) at (c .judge .ensures)
+
+returns : tie.Need-returns
+returns c =
+    let after = c .before .before .before in
+    let start = after .before .before .before .before in
+    let a = start .args in
+    let fault = after .judge .result .fault in
+    c .refused .ensures
+    ∙ sym (readAs-faulty (a .numbers) (now (a .packet)) (a .kind) (start .pre .0) (start .pre .1) (walked-whole (now (a .packet)) (start .pre .2)) fault
+    (judged after .fault ∙ placed-some fault (c .before .if1 .taken)))
+
+message-of-requires : tie.Need-message-of-requires
+message-of-requires c κs = search needs
+
+returns-2 : tie.Need-returns-2
+returns-2 c =
+    let else1 = c .before .before in
+    let after = else1 .before .before in
+    let start = after .before .before .before .before in
+    let a = start .args in
+    rw (c .message-of .ensures, start .pre .3, judged after .places (else1 .if1 .left))
+    (sym (readAs-right (a .numbers) (now (a .packet)) (a .kind) (start .pre .0) (start .pre .1) (walked-whole (now (a .packet)) (start .pre .2))
+    (judged after .fault ∙ ap placed (else1 .if1 .left))))
+
+pub read-kind-spec : {M : Type 1} → statement M
+read-kind-spec =
+    tie.close
+    (tie.spec
+    is-granted-requires
+    slots-of-requires
+    judge-requires
+    refused-requires
+    returns
+    message-of-requires
+    returns-2)

@@ -1,0 +1,135 @@
+-- `packet::values::message_of` meets its contract: each arm is its kind's entry of `valuesFrom`, read where four octets stand.
+-- Assumes nothing.
+use Prim.Native.Nat.{ℕ, _+_, _≤_, _<_}
+use borrow.Author.Needs.{needs}
+use native.Mathlib.Omega.{arith}
+use lib.ListN.{length, getD}
+use lib.Dec.{leb, leb→le, lit<}
+use Rattle.octets.proofs.Choice.{every-getD}
+use Rattle.packet.specs.Inner.{PlacesInside, valuesFrom, numberFrom}
+use Rattle.packet.proofs.Laws.Kinds.{seventh}
+use Rattle.packet.proofs.values.message_of.Statement.{statement}
+use Rattle.packet.proofs.values.message_of.Tie as tie
+
+-- four octets stand at each place
+inside : (c : tie.Start) (i : ℕ) → i < 3 → getD (c .args .t4) i 0 + 4 ≤ length (c .args .packet .now)
+unfolding PlacesInside
+inside c i h =
+    let p = c .args .packet .now in
+    leb→le (getD (c .args .t4) i 0 + 4) (length p)
+    (every-getD (λ (a : ℕ). leb (a + 4) (length p)) (c .args .t4) i 0 (c .pre .3) (omega arith))
+
+array-read-first : tie.Need-array-read-first
+array-read-first c = search needs
+
+array-read-second : tie.Need-array-read-second
+array-read-second c = search needs
+
+array-read-third : tie.Need-array-read-third
+array-read-third c = search needs
+
+name-at-requires : tie.Need-name-at-requires
+name-at-requires c κs = (inside (c .before .before) 0 (lit< tt), c .before .before .pre .2)
+
+name-at-requires-2 : tie.Need-name-at-requires-2
+name-at-requires-2 c κs = (inside (c .before .before .before) 1 (lit< tt), c .before .before .before .pre .2)
+
+indicator-at-requires : tie.Need-indicator-at-requires
+indicator-at-requires c κs = inside (c .before .before .before .before) 2 (lit< tt)
+
+verdict-at-requires : tie.Need-verdict-at-requires
+verdict-at-requires c κs = (inside (c .before .before) 0 (lit< tt), inside (c .before .before) 1 (lit< tt))
+
+indicator-at-requires-2 : tie.Need-indicator-at-requires-2
+indicator-at-requires-2 c κs = inside (c .before .before .before) 2 (lit< tt)
+
+name-at-requires-3 : tie.Need-name-at-requires-3
+name-at-requires-3 c κs = (inside (c .before .before) 0 (lit< tt), c .before .before .pre .2)
+
+indicator-at-requires-3 : tie.Need-indicator-at-requires-3
+indicator-at-requires-3 c κs = inside (c .before .before .before) 1 (lit< tt)
+
+name-at-requires-4 : tie.Need-name-at-requires-4
+name-at-requires-4 c κs = (inside (c .before .before) 0 (lit< tt), c .before .before .pre .2)
+
+number-at-requires : tie.Need-number-at-requires
+number-at-requires c κs = inside (c .before .before) 0 (lit< tt)
+
+indicator-at-requires-4 : tie.Need-indicator-at-requires-4
+indicator-at-requires-4 c κs = inside (c .before .before .before) 1 (lit< tt)
+
+number-at-requires-2 : tie.Need-number-at-requires-2
+number-at-requires-2 c κs = inside (c .before .before) 0 (lit< tt)
+
+add-t28 : tie.Need-add-t28
+add-t28 c = omega (arith, inside (c .before .before .before) 1 (lit< tt))
+
+shared-slice-read-t30 : tie.Need-shared-slice-read-t30
+shared-slice-read-t30 c = omega (arith, inside (c .before .before .before .before) 1 (lit< tt))
+
+returns : tie.Need-returns
+unfolding valuesFrom
+returns c =
+    let keys1 = c .before .before .before in
+    rw (keys1 .match .keys1, c .before .before .name-at .ensures, c .before .name-at2 .ensures, c .indicator-at .ensures)
+
+returns-2 : tie.Need-returns-2
+unfolding valuesFrom
+returns-2 c =
+    let keys2 = c .before .before in
+    rw (keys2 .match .keys2, c .before .verdict-at .ensures .0, c .before .verdict-at .ensures .1, c .indicator-at2 .ensures)
+
+returns-3 : tie.Need-returns-3
+unfolding valuesFrom
+returns-3 c =
+    let keys3 = c .before .before in
+    rw (keys3 .match .keys3, c .before .name-at3 .ensures, c .indicator-at3 .ensures)
+
+returns-4 : tie.Need-returns-4
+unfolding valuesFrom
+returns-4 c = rw (c .before .match .keys4, c .name-at4 .ensures)
+
+returns-5 : tie.Need-returns-5
+unfolding valuesFrom numberFrom
+returns-5 c =
+    let keys5 = c .before .before in
+    rw (keys5 .match .keys5, c .before .number-at .ensures, c .indicator-at4 .ensures)
+
+returns-6 : tie.Need-returns-6
+unfolding valuesFrom
+returns-6 c = rw (c .match .keys6)
+
+returns-7 : tie.Need-returns-7
+unfolding valuesFrom numberFrom
+returns-7 c =
+    let rest = c .before .before in
+    let start = rest .before .before in
+    rw (seventh (start .args .kind) (start .pre .0) (start .pre .1) (rest .match .rest), c .before .number-at2 .ensures)
+
+pub message-of-spec : {M : Type 1} → statement M
+message-of-spec =
+    tie.close
+    (tie.spec
+    array-read-first
+    array-read-second
+    array-read-third
+    name-at-requires
+    name-at-requires-2
+    indicator-at-requires
+    verdict-at-requires
+    indicator-at-requires-2
+    name-at-requires-3
+    indicator-at-requires-3
+    name-at-requires-4
+    number-at-requires
+    indicator-at-requires-4
+    number-at-requires-2
+    add-t28
+    shared-slice-read-t30
+    returns
+    returns-2
+    returns-3
+    returns-4
+    returns-5
+    returns-6
+    returns-7)

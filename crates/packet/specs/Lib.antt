@@ -1,0 +1,11 @@
+pub mod Header
+pub mod Walk
+pub mod Kind
+pub mod Judge
+pub mod Reading
+pub mod Message
+pub mod Inner
+pub mod Apart
+pub mod Promises
+pub mod Layout
+pub mod Claims

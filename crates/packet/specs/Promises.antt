@@ -1,0 +1,27 @@
+-- What each public function promises, one predicate a function, NAME≡: the equation that its answer meets, for every input.
+-- Beside it, NAME-once: no second answer meets it. Assumes nothing.
+use mathlib.Core.Path.{_≡_}
+use Prim.Native.Nat.{ℕ}
+use mathlib.Core.List.{List}
+use Rattle.octets.specs.Promises.{one-answer}
+use Rattle.sheet.specs.declared.Sheet.{Sheet}
+use Rattle.packet.specs.declared.Reading.{Reading}
+use Rattle.packet.specs.declared.field.Step.{Step}
+use Rattle.packet.specs.Walk.{stepOf}
+use Rattle.packet.specs.Reading.{readOf}
+use Rattle.packet.specs.Message.{readSaid, stepSaid}
+use Rattle.packet.specs.Apart.{reading-apart, step-apart}
+
+-- the message, or the refusal
+abbrev pub read≡ : Sheet → List ℕ → Reading → Type 0
+read≡ sheet p r = readSaid r ≡ readOf sheet p
+
+pub read-once : (sheet : Sheet) (p : List ℕ) (x y : Reading) → read≡ sheet p x → read≡ sheet p y → x ≡ y
+read-once sheet p x y e f = one-answer readSaid reading-apart x y e f
+
+-- the field at a place, the end, or 4
+abbrev pub field-at≡ : List ℕ → ℕ → Step → Type 0
+field-at≡ p at r = stepSaid r ≡ stepOf p at
+
+pub field-at-once : (p : List ℕ) (at : ℕ) (x y : Step) → field-at≡ p at x → field-at≡ p at y → x ≡ y
+field-at-once p at x y e f = one-answer stepSaid step-apart x y e f

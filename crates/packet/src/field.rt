@@ -1,0 +1,65 @@
+// One field at a place of any octets (document 01, "Packet").
+use super::walk::FIRST_FIELD;
+use super::walk::size_at;
+use super::walk::walk;
+use sheet::Refusal;
+ghost use mathlib.Core.Path.{_≡_};
+ghost use Rattle.packet.specs.Walk.{refused};
+ghost use Rattle.packet.specs.Message.{stepSaid};
+ghost use Rattle.packet.specs.Promises.{field-at≡};
+
+// A field: the place of its ID octet, its ID, the length of its value, which begins two octets on, and where the next field begins.
+pub struct Field {
+    pub at: usize,
+    pub id: u8,
+    pub len: usize,
+    pub next: usize,
+}
+
+// What stands at a place: a field, the packet's end, or 4.
+pub enum Step {
+    Field(Field),
+    End,
+    Refused(Refusal),
+}
+
+fn bad() -> Step
+    ensures { λ r. ⌜ stepSaid r ≡ refused 4 0 ⌝ }
+{
+    Step::Refused(Refusal { number: 4, at: 0 })
+}
+
+// The field at a place; the end; or 4 for a bad field, or a place below 12, off a word or past the end.
+pub fn field_at(packet: &[u8], at: usize) -> Step
+    ensures { λ r. ⌜ field-at≡ (now (packet .entry)) at r ⌝ }
+{
+    if at < FIRST_FIELD {
+        return bad();
+    }
+    if at % 4 != 0 {
+        return bad();
+    }
+    if packet.len() < at {
+        return bad();
+    }
+    if at == packet.len() {
+        return Step::End;
+    }
+    if packet.len() - at < 2 {
+        return bad();
+    }
+    let size = size_at(packet, at);
+    if packet.len() - at < size {
+        return bad();
+    }
+    let next = at + size;
+    if walk(&packet[..next], at) < next {
+        return bad();
+    }
+    Step::Field(Field {
+        at,
+        id: packet[at],
+        len: packet[at + 1] as usize,
+        next,
+    })
+}

@@ -1,0 +1,39 @@
+// The header of a packet (document 01, "Packet"; RFC 3550, 6.7).
+use super::walk::FIRST_FIELD;
+ghost use mathlib.Core.Path.{_≡_};
+ghost use Prim.Native.Nat.{_≤_};
+ghost use lib.ListN.{length};
+ghost use Rattle.packet.specs.Header.{sizeRight, headRight};
+
+// The most octets of a packet.
+const MOST: usize = 256;
+
+// The packet type of APP (RFC 3550, 12.1).
+const APP: u8 = 204;
+
+// "12 to 256 octets, a multiple of 4".
+pub fn is_size_right(packet: &[u8]) -> bool
+    ensures { λ r. ⌜ r ≡ sizeRight (now (packet .entry)) ⌝ }
+{
+    if packet.len() < FIRST_FIELD {
+        return false;
+    }
+    if MOST < packet.len() {
+        return false;
+    }
+    packet.len() % 4 == 0
+}
+
+// Version 2, padding bit 0, type 204, and the length that of the packet, in words minus one.
+pub fn is_head_right(packet: &[u8]) -> bool
+    requires { ⌜ 12 ≤ length (now packet) ⌝ }
+    ensures { λ r. ⌜ r ≡ headRight (now (packet .entry)) ⌝ }
+{
+    if packet[0] / 32 != 4 {
+        return false;
+    }
+    if packet[1] != APP {
+        return false;
+    }
+    ((octets::u16_at(packet, 2) as usize) + 1) * 4 == packet.len()
+}

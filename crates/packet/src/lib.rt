@@ -1,0 +1,136 @@
+// RTCP APP packets of MCVideo (document 01, "Packet"; RFC 3550, 6.7): read as one of seven messages.
+pub mod field;
+mod header;
+mod judge;
+mod kind;
+mod values;
+mod walk;
+
+use kind::Numbers;
+use sheet::Refusal;
+use sheet::Sheet;
+ghost use mathlib.Core.Path.{_≡_};
+ghost use Prim.Native.Nat.{_<_};
+ghost use Rattle.packet.specs.Reading.{refused, readAs, readBy};
+ghost use Rattle.packet.specs.Message.{readSaid};
+ghost use Rattle.packet.specs.Inner.{headIn, Walked, kindNumbered};
+ghost use Rattle.packet.specs.Promises.{read≡};
+
+// What every message has: its sender's SSRC, and whether it asks for an Ack.
+pub struct Head {
+    pub ssrc: u32,
+    pub ack: bool,
+}
+
+// A User ID, by its place in the octets lent beside the message and its length.
+pub struct Name {
+    pub at: u32,
+    pub len: u32,
+}
+
+// The Transmission Indicator, which may be absent.
+pub enum Indicator {
+    Absent,
+    Given(u16),
+}
+
+// Result 1, or Result 0 with its Reject Cause.
+pub enum Verdict {
+    Granted,
+    Rejected(u16),
+}
+
+// The seven messages, in the order of document 01's kinds.
+pub enum Message {
+    ReceiveRequest {
+        head: Head,
+        user: Name,
+        source: Name,
+        indicator: Indicator,
+    },
+    ReceiveResponse {
+        head: Head,
+        verdict: Verdict,
+        indicator: Indicator,
+    },
+    EndRequest {
+        head: Head,
+        transmitter: Name,
+        indicator: Indicator,
+    },
+    EndResponse {
+        head: Head,
+        transmitter: Name,
+    },
+    TransmissionEnd {
+        head: Head,
+        cause: u16,
+        indicator: Indicator,
+    },
+    TransmissionEndResponse {
+        head: Head,
+    },
+    Ack {
+        head: Head,
+        source: u16,
+        about: u8,
+    },
+}
+
+// A message, or why there is none.
+pub enum Reading {
+    Read(Message),
+    Refused(Refusal),
+}
+
+// A refusal by its number alone.
+fn refused(number: u32) -> Reading
+    ensures { λ r. ⌜ readSaid r ≡ refused number 0 ⌝ }
+{
+    Reading::Refused(Refusal { number, at: 0 })
+}
+
+// The message of a packet of this kind whose walk is whole, or 5.
+fn read_kind(numbers: Numbers, packet: &[u8], kind: u32, head: Head) -> Reading
+    requires { ⌜ (0 < kind) × (kind < 8) × Walked (now packet) × (head ≡ headIn (now packet)) ⌝ }
+    ensures { λ r. ⌜ readSaid r ≡ readAs numbers (now (packet .entry)) (kindNumbered numbers kind) ⌝ }
+{
+    let granted = judge::is_granted(packet, kind, numbers.resultid);
+    let judged = judge::judge(packet, kind::slots_of(numbers, kind, granted));
+    if judged.fault != 0 {
+        return refused(5);
+    }
+    let places = judged.places;
+    Reading::Read(values::message_of(packet, kind, head, places))
+}
+
+// The message of a packet under these numbers, or 1, 2, 3, 4 or 5.
+fn read_by(numbers: Numbers, packet: &[u8]) -> Reading
+    ensures { λ r. ⌜ readSaid r ≡ readBy numbers (now (packet .entry)) ⌝ }
+{
+    if !header::is_size_right(packet) {
+        return refused(1);
+    }
+    if !header::is_head_right(packet) {
+        return refused(2);
+    }
+    let head = values::head_of(packet);
+    let kind = kind::kind_of(numbers, packet);
+    if kind == 0 {
+        return refused(3);
+    }
+    if walk::walk(packet, walk::FIRST_FIELD) < packet.len() {
+        return refused(4);
+    }
+    read_kind(numbers, packet, kind, head)
+}
+
+// Reads a packet: a message, or 12 line 0, 1, 2, 3, 4 or 5, checked in that order.
+pub fn read(sheet: Sheet, packet: &[u8]) -> Reading
+    ensures { λ r. ⌜ read≡ sheet (now (packet .entry)) r ⌝ }
+{
+    if !sheet::valid(sheet) {
+        return refused(12);
+    }
+    read_by(kind::numbers_of(sheet), packet)
+}
