@@ -1,14 +1,18 @@
 -- Laws of big-endian numbers in octets, over any width: a number splits where its octets do, so a wide one is made of narrow ones.
 -- Assumes nothing.
-use mathlib.Core.Path.{_≡_, refl, _∙_}
+use mathlib.Core.Path.{_≡_, refl, sym, ap, _∙_}
 use Prim.Native.Nat.{ℕ, zero, suc, _+_, _*_, _/_, _%_, _^_, _≤_, _<_}
-use native.Mathlib.Nat.{add-zero, add-suc, add-assoc, add-mul, mul-assoc, mul-one, pow-zero, pow-suc, pow-succ', div-one, div-div-eq-div-mul, mod-one, one-le-pow, mod-lt}
+use native.Mathlib.Nat.{add-zero, add-suc, add-assoc, add-mul, mul-assoc, mul-one, pow-zero, pow-suc, pow-succ', div-one, div-div-eq-div-mul, mod-one, one-le-pow, mod-lt, mod-eq-of-lt}
 use native.Mathlib.Omega.{arith}
 use mathlib.Core.List.{List, [], _∷_, _++_, append-nil, append-assoc}
-use lib.ListN.{length, getD, length-append, List·getD-eq-default, List·getD-append}
-use lib.Seq.{getD-append-add, getD-at}
+use lib.ListN.{length, getD, take, drop, length-append, length-drop, List·getD-eq-default, List·getD-append}
+use lib.Seq.{take-suc, getD-drop, getD-append-add, getD-at}
 use lib.Arith.{digits-lt, digits-div, digits-mod, mod-mul}
+use lib.Dec.{eqb, eqb→eq}
+use borrow.Author.Tests.{eq-eqb}
+use Rattle.octets.specs.Choice.{same}
 use Rattle.octets.specs.Big.{bigAt, bigOf}
+use Rattle.octets.proofs.Choice.{test-eq, true-T, same-eq, eq-same}
 
 -- ---- a number read at a place
 
@@ -98,3 +102,27 @@ bigAt-put w n xs ys =
     rw append-assoc (rw add-zero at (bigAt-append-add w xs (bigOf w n ++ ys) 0))
     ∙ bigAt-append-le w (bigOf w n) ys 0 (omega (arith, length-bigOf w n))
     ∙ bigAt-bigOf w n
+
+-- ---- octets told by their number
+
+-- numbers below the width's power with the same octets are the same
+pub bigOf-inj : (w m n : ℕ) → m < 256 ^ w → n < 256 ^ w → bigOf w m ≡ bigOf w n → m ≡ n
+bigOf-inj w m n h l e =
+    sym (mod-eq-of-lt h) ∙ sym (bigAt-bigOf w m) ∙ ap (λ (s : List ℕ). bigAt w s 0) e ∙ bigAt-bigOf w n ∙ mod-eq-of-lt l
+
+module _ (s : List ℕ) (octets : (i : ℕ) → getD s i 0 < 256) where
+  -- the octets at a place are those of the number that they make
+  pub bigOf-bigAt : (w at : ℕ) → at + w ≤ length s → bigOf w (bigAt w s at) ≡ take w (drop at s)
+  unfolding bigOf bigAt
+  bigOf-bigAt zero at h = refl
+  bigOf-bigAt (suc w) at h =
+      let l : w < length (drop at s) = rw length-drop (omega arith) in
+      rw (digits-div (bigAt w s at) (octets (at + w)), digits-mod (bigAt w s at) (octets (at + w)), bigOf-bigAt w at (omega arith), take-suc (drop at s) w 0 l, getD-drop)
+
+  -- so they are given ones exactly if their number is the given ones'
+  pub same-bigOf : (w at n : ℕ) → at + w ≤ length s → n < 256 ^ w → same (take w (drop at s)) (bigOf w n) ≡ eqb (bigAt w s at) n
+  same-bigOf w at n h l =
+      test-eq (same (take w (drop at s)) (bigOf w n)) (eqb (bigAt w s at) n)
+      (λ t. true-T (eqb (bigAt w s at) n)
+      (eq-eqb (bigAt w s at) n (bigOf-inj w (bigAt w s at) n (bigAt-lt w s at octets) l (bigOf-bigAt w at h ∙ same-eq (take w (drop at s)) (bigOf w n) t))))
+      (λ t. eq-same (take w (drop at s)) (bigOf w n) (sym (bigOf-bigAt w at h) ∙ ap (bigOf w) (eqb→eq (bigAt w s at) n t)))

@@ -1,12 +1,12 @@
 -- Laws of choice by a test, and of the tests on lists: what a test that holds says, and when it holds.
 -- Assumes nothing.
 use mathlib.Core.Path.{_≡_, refl, sym, ap, ap₂, subst}
-use mathlib.Core.Logic.{_⊎_, inl, inr, ⊎-elim}
-use mathlib.Core.Bool.{Bool, true, false, _&&_, _||_, and-eq-true-iff, and-assoc, or-assoc}
+use mathlib.Core.Logic.{_⊎_, inl, inr, ⊎-elim, _↔_}
+use mathlib.Core.Bool.{Bool, true, false, not, _&&_, _||_, and-eq-true-iff, and-assoc, or-assoc}
 use mathlib.Core.List.{List, [], _∷_, _++_, map}
 use mathlib.Core.Option.{none, some, Option·map, Option·some-ne-none, Option·none-ne-some, Option·some-injective, map-eq-none-iff, map-eq-some-iff}
 use Prim.Native.Nat.{ℕ, zero, suc, _+_, _≤_, _<_, zero-le, suc-le-suc}
-use native.Mathlib.Nat.{le-of-suc-le-suc, not-suc-le-zero, zero-lt-suc}
+use native.Mathlib.Nat.{le-of-suc-le-suc, not-suc-le-zero, zero-lt-suc, eq-or-lt-of-le}
 use native.Mathlib.Numerals.{add-one}
 use native.Mathlib.Omega.{arith}
 use lib.ListN.{length, getD, drop, replicate, drop-of-length-le}
@@ -89,6 +89,22 @@ pub T-or-cases : (a b : Bool) → T (a || b) → T a ⊎ T b
 T-or-cases true b t = inl tt
 T-or-cases false b t = inr t
 
+-- the one holds and the other does not: that is false exactly if the other holds where the one does
+pub unless : (a b : Bool) → ((a && not b) ≡ false) ↔ (T a → T b)
+unless true true = ((λ e t. tt), (λ h. refl))
+unless true false = ((λ e t. false-T true e tt), (λ h. absurd (h tt)))
+unless false b = ((λ e t. absurd t), (λ h. refl))
+
+-- the one does not hold or the other does exactly if the other holds where the one does
+pub implies : (a b : Bool) → T (not a || b) ↔ (T a → T b)
+implies true b = ((λ t u. t), (λ h. h tt))
+implies false b = ((λ t u. absurd u), (λ h. tt))
+
+-- neither holds
+pub or-false-both : (a b : Bool) → (a || b) ≡ false → (a ≡ false) × (b ≡ false)
+or-false-both true b e = absurd (false-T true e tt)
+or-false-both false b e = (refl, e)
+
 -- ---- pick
 
 -- a test that is true picks the first
@@ -98,6 +114,11 @@ pick-true b x y e = rw e
 -- a test that is false picks the second
 pub pick-false {ℓ} : {A : Type ℓ} (b : Bool) (x y : A) → b ≡ false → pick b x y ≡ y
 pick-false b x y e = rw e
+
+-- a choice between the same is no choice
+pub pick-same {ℓ} : {A : Type ℓ} (b : Bool) (x : A) → pick b x x ≡ x
+pick-same true x = refl
+pick-same false x = refl
 
 -- what holds of the first where the test holds, and of the second where it is false, holds of the one picked
 pub pick-cases {ℓ κ} : {A : Type ℓ} (P : A → Type κ) (b : Bool) (x y : A) → (T b → P x) → (b ≡ false → P y) → P (pick b x y)
@@ -168,6 +189,17 @@ below (suc n) p t k l =
     (λ h. subst (λ (i : ℕ). T (p i)) (omega arith) (T-and-left (p n) (allBelow n p) t))
     (le-or-lt (suc k) n)
 
+-- none of the n numbers from a on, as the last arm of a `match` is told
+abbrev pub NoneFrom : ℕ → ℕ → ℕ → Type 0
+NoneFrom a zero k = Unit {0}
+NoneFrom a (suc n) k = NoneFrom a n k × (k ≡ a + n → ⊥)
+
+-- so a number that is a or more is past them
+pub none-from : (a n k : ℕ) → a ≤ k → NoneFrom a n k → a + n ≤ k
+none-from a zero k h t = omega arith
+none-from a (suc n) k h t =
+    ⊎-elim (λ e. absurd (t .1 (sym e))) (λ l. omega arith) (eq-or-lt-of-le (none-from a n k h (t .0)))
+
 -- ---- every: a test holds of each element
 
 module _ {ℓ} {A : Type ℓ} (p : A → Bool) where
@@ -198,6 +230,12 @@ module _ {ℓ} {A : Type ℓ} (p : A → Bool) where
   getD-every [] d h = tt
   getD-every (x ∷ xs) d h =
       T-and (p x) (every p xs) (h zero (zero-lt-suc (length xs))) (getD-every xs d (λ i l. h (suc i) (suc-le-suc l)))
+
+-- a test that holds of each element holds of each that is left
+pub every-drop : {A : Type 0} (p : A → Bool) (n : ℕ) (l : List A) → T (every p l) → T (every p (drop n l))
+every-drop p zero l t = t
+every-drop p (suc n) [] t = t
+every-drop p (suc n) (x ∷ l) t = every-drop p n l (T-and-right (p x) (every p l) t)
 
 -- what holds of each by one test holds by a weaker one
 pub every-weaker : (p q : ℕ → Bool) → ((c : ℕ) → T (p c) → T (q c)) → (cs : List ℕ) → T (every p cs) → T (every q cs)

@@ -1,5 +1,6 @@
 pub mod Lists
 pub mod Choice
+pub mod Keep
 pub mod Places
 pub mod Big
 pub mod Buffer

@@ -1,11 +1,12 @@
--- Laws on lists that the library lacks: elements one by one, and what `map`, `take` and `drop` do to one another. Assumes nothing.
+-- Laws on lists that the library lacks: elements one by one, and what `map`, `take`, `drop` and `++` do to one another. Assumes nothing.
 use mathlib.Core.Path.{_≡_, refl, sym, ap, _∙_}
-use mathlib.Core.List.{List, [], _∷_, map}
+use mathlib.Core.List.{List, [], _∷_, _++_, map}
+use mathlib.Core.Option.{some}
 use Prim.Native.Nat.{ℕ, zero, suc, _+_, _-_, _≤_, _<_}
 use native.Mathlib.Nat.{not-suc-le-zero, le-of-suc-le-suc, sub-zero, zero-sub, suc-sub-suc}
 use native.Mathlib.Omega.{arith}
-use lib.ListN.{length, getD, take, drop, replicate, length-drop}
-use lib.Seq.{drop-cons, take-all}
+use lib.ListN.{length, getD, getElem?, take, drop, replicate, length-drop}
+use lib.Seq.{drop-cons, take-all, take-nil, slice}
 
 -- ---- the elements of a list, one by one
 
@@ -31,7 +32,7 @@ getD-default [] i d e h = absurd (not-suc-le-zero h)
 getD-default (x ∷ l) zero d e h = refl
 getD-default (x ∷ l) (suc i) d e h = getD-default l i d e (le-of-suc-le-suc h)
 
--- ---- map, take, drop, replicate
+-- ---- map, take, drop, replicate, slice
 
 -- dropping and mapping, in either order
 pub map-drop : {A B : Type 0} (f : A → B) (n : ℕ) (xs : List A) → drop n (map f xs) ≡ map f (drop n xs)
@@ -50,3 +51,30 @@ pub drop-replicate : {A : Type 0} (n m : ℕ) (a : A) → drop n (replicate m a)
 drop-replicate zero m a = ap (λ (k : ℕ). replicate k a) (sym (sub-zero m))
 drop-replicate (suc n) zero a = ap (λ (k : ℕ). replicate k a) (sym (zero-sub (suc n)))
 drop-replicate (suc n) (suc m) a = drop-replicate n m a ∙ ap (λ (k : ℕ). replicate k a) (sym (suc-sub-suc m n))
+
+-- so many of what is left from a place on are those up to an end
+pub take-drop-slice {ℓ} : {A : Type ℓ} (a e : ℕ) (l : List A) → take (e - a) (drop a l) ≡ slice a e l
+take-drop-slice zero e l = rw sub-zero
+take-drop-slice (suc a) e [] = rw (take-nil (e - suc a), take-nil e)
+take-drop-slice (suc a) zero (x ∷ l) = rw zero-sub
+take-drop-slice (suc a) (suc e) (x ∷ l) = rw suc-sub-suc (take-drop-slice a e l)
+
+-- ---- an element, if there is one
+
+-- an element is the first of what is left behind those before it
+pub getElem?-drop : {A : Type 0} (n : ℕ) (l : List A) → getElem? l n ≡ getElem? (drop n l) 0
+getElem?-drop zero l = refl
+getElem?-drop (suc n) [] = refl
+getElem?-drop (suc n) (x ∷ l) = getElem?-drop n l
+
+-- one element more stands at the end
+pub getElem?-snoc : {A : Type 0} (xs : List A) (x : A) → getElem? (xs ++ (x ∷ [])) (length xs) ≡ some x
+getElem?-snoc [] x = refl
+getElem?-snoc (y ∷ xs) x = getElem?-snoc xs x
+
+-- and nowhere else
+pub getElem?-snoc-other : {A : Type 0} (xs : List A) (x : A) (k : ℕ) → (length xs ≡ k → ⊥) → getElem? (xs ++ (x ∷ [])) k ≡ getElem? xs k
+getElem?-snoc-other [] x zero n = absurd (n refl)
+getElem?-snoc-other [] x (suc k) n = refl
+getElem?-snoc-other (y ∷ xs) x zero n = refl
+getElem?-snoc-other (y ∷ xs) x (suc k) n = getElem?-snoc-other xs x k (λ e. n (ap suc e))

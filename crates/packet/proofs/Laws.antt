@@ -1,7 +1,7 @@
+pub mod Sized
 pub mod Walk
 pub mod Step
 pub mod Layouts
-pub mod Letters
 pub mod Kinds
 pub mod Judging
 pub mod Allowed

@@ -11,14 +11,15 @@ use lib.Seq.{take-nil, take-all}
 use lib.Dec.{T, eqb, eqb→eq, eqb-refl}
 use borrow.Author.Tests.{not-true, not-false}
 use Rattle.octets.specs.Choice.{pick, every, some-of}
-use Rattle.octets.proofs.Choice.{T-true, true-T, decide, T-and, T-and-left, T-and-right, T-or-left, T-or-right, pick-cases}
+use Rattle.octets.proofs.Choice.{or-false-both, T-true, true-T, decide, T-and, T-and-left, T-and-right, T-or-left, T-or-right, pick-cases}
+use Rattle.octets.proofs.Keep.{keep-keep}
 use Rattle.packet.specs.declared.field.Field.{Field}
 use Rattle.packet.specs.declared.kind.Form.the-variants.{Barred}
 use Rattle.packet.specs.declared.kind.Slot.{Slot}
 use Rattle.packet.specs.Kind.{Need, always, maybe, unlessGranted, Row, row, settled}
 use Rattle.packet.specs.Judge.{Held, fits, heldIn, fieldsWith, slotsWith, Filled, filledBehind, filledIn, isAbsent, lacking, faultOf, heldBy}
 use Rattle.packet.specs.Claims.{useful, Arranged, present, mayLack, mayHave, Allows, AllowsAll}
-use Rattle.packet.proofs.Laws.Judging.{or-false-both, keep-keep, fitting, fitting-length, slotsWith-own, slotsWith-other, inUse, slotsWith-none, faultOf-none, leftFor, every-leftFor, leftFor-snoc, filledBehind-cons, fitting-next}
+use Rattle.packet.proofs.Laws.Judging.{fitting, fitting-length, slotsWith-own, slotsWith-other, inUse, slotsWith-none, faultOf-none, leftFor, every-leftFor, leftFor-snoc, filledBehind-cons, fitting-next}
 
 -- ---- a row and its slot
 

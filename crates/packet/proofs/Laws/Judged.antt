@@ -15,27 +15,12 @@ use Rattle.packet.specs.declared.field.Field.{Field}
 use Rattle.packet.specs.declared.kind.Slot.{Slot}
 use Rattle.packet.specs.declared.judge.Use.the-variants.{Fills, Repeats, Skipped}
 use Rattle.packet.specs.Header.{firstField}
-use Rattle.packet.specs.Walk.{valueEnd, nextAt, fieldRight, fieldAt, fieldsFrom, stopFrom, fieldsOf}
+use Rattle.packet.specs.Walk.{nextAt, fieldRight, fieldAt, fieldsFrom, stopFrom, fieldsOf}
 use Rattle.packet.specs.Judge.{fits, numberAt, fieldsWith, grantIn, granted, atFault, faultAmong, missingAt, firstOf, faultOf}
 use Rattle.packet.specs.Inner.{Walked, JudgedIs, placesIn, PlacesInside, placed, openIn, lackIn}
-use Rattle.packet.proofs.Laws.Walk.{next-after, valueEnd-next, right-next, right-end, fieldsFrom-right, fieldsFrom-wrong, stopFrom-right, stopFrom-whole}
+use Rattle.packet.proofs.Laws.Walk.{right-inside, next-after, right-end, fieldsFrom-right, fieldsFrom-wrong, stopFrom-right, stopFrom-whole}
 use Rattle.packet.proofs.Laws.Slots.{blank}
 use Rattle.packet.proofs.Laws.Places.{standing, places-none, inside-places, lackIn-places, useIn, fills-inside, fills-fault, fills-places, repeats-fault, skipped-fault, skipped-places}
-
--- ---- where a right field lies
-
--- it is four octets long at least, and its value ends in the packet
-pub right-inside : (p : List ℕ) (at : ℕ) → T (fieldRight p at) → (at + 4 ≤ length p) × (at + 2 + getD p (at + 1) 0 ≤ length p)
-unfolding valueEnd
-right-inside p at t =
-    let next = right-next p at t in
-    let least = next-after p at in
-    let value = valueEnd-next p at in
-    (omega arith, omega arith)
-
--- at a place of a walk that goes to the end: the next one's place
-pub whole-next : (p : List ℕ) (at : ℕ) → stopFrom p at ≡ length p → at < length p → (at + 4 ≤ nextAt p at) × (nextAt p at ≤ length p)
-whole-next p at e h = (next-after p at, right-next p at (stopFrom-whole p at e h))
 
 -- ---- the first Result among the fields from a place on
 
@@ -83,7 +68,7 @@ judging-first p slots w =
     }
 
 -- a place that is not 0
-placed-some : (n : ℕ) → 0 < n → placed n ≡ some n
+pub placed-some : (n : ℕ) → 0 < n → placed n ≡ some n
 placed-some zero h = absurd (omega arith)
 placed-some (suc n) h = refl
 

@@ -6,102 +6,16 @@ use mathlib.Core.Bool.{Bool, true, false, not, _&&_, _||_}
 use mathlib.Core.List.{List, [], _∷_, _++_, map}
 use mathlib.Core.Option.{Option, none, some, Option·some-ne-none}
 use Prim.Native.Nat.{ℕ, zero, suc, _≤_, zero-le, suc-le-suc}
-use lib.ListN.{length, getD, getElem?, drop, length-append}
-use lib.Seq.{drop-drop}
+use lib.ListN.{length, getD, getElem?, drop}
 use lib.Dec.{T, eqb, eqb→eq, eqb-refl}
-use Rattle.octets.specs.Choice.{pick, every, keep, some-of}
-use Rattle.octets.proofs.Choice.{T-true, false-T, decide, T-and, T-and-left, T-and-right, pick-cases}
+use Rattle.octets.specs.Choice.{pick, every, some-of}
+use Rattle.octets.proofs.Lists.{getElem?-drop}
+use Rattle.octets.proofs.Choice.{T-true, false-T, decide, T-and, T-and-left, T-and-right, unless, implies, pick-cases, every-drop}
+use Rattle.octets.proofs.Keep.{every-keep, keep-none, drop-keep-snoc}
 use Rattle.packet.specs.declared.field.Field.{Field}
 use Rattle.packet.specs.declared.kind.Form.the-variants.{Barred}
 use Rattle.packet.specs.declared.kind.Slot.{Slot}
 use Rattle.packet.specs.Judge.{fits, fieldsWith, slotsWith, formFor, atFault, faultAmong, filledBehind, filledIn, lacking, missingAt, firstOf, faultOf}
-
--- ---- tests
-
--- the one holds and the other does not: that is false exactly if the other holds where the one does
-unless : (a b : Bool) → ((a && not b) ≡ false) ↔ (T a → T b)
-unless true true = ((λ e t. tt), (λ h. refl))
-unless true false = ((λ e t. false-T true e tt), (λ h. absurd (h tt)))
-unless false b = ((λ e t. absurd t), (λ h. refl))
-
--- the one does not hold or the other does exactly if the other holds where the one does
-implies : (a b : Bool) → T (not a || b) ↔ (T a → T b)
-implies true b = ((λ t u. t), (λ h. h tt))
-implies false b = ((λ t u. absurd u), (λ h. tt))
-
--- neither holds
-pub or-false-both : (a b : Bool) → (a || b) ≡ false → (a ≡ false) × (b ≡ false)
-or-false-both true b e = absurd (false-T true e tt)
-or-false-both false b e = (refl, e)
-
--- ---- keep: the elements of which a test holds
-
-module _ {A : Type 0} (p : A → Bool) where
-  -- of two lists, one after the other
-  pub keep-append : (xs ys : List A) → keep p (xs ++ ys) ≡ keep p xs ++ keep p ys
-  keep-append [] ys = refl
-  keep-append (x ∷ xs) ys =
-      pick-cases (λ l. pick (p x) (x ∷ keep p (xs ++ ys)) (keep p (xs ++ ys)) ≡ l ++ keep p ys) (p x) (x ∷ keep p xs) (keep p xs)
-      (λ t. rw (T-true (p x) t, keep-append xs ys))
-      (λ e. rw (e, keep-append xs ys))
-
-  -- the test holds of each of them
-  pub every-keep : (xs : List A) → T (every p (keep p xs))
-  every-keep [] = tt
-  every-keep (x ∷ xs) =
-      pick-cases (λ l. T (every p l)) (p x) (x ∷ keep p xs) (keep p xs) (λ t. T-and (p x) (every p (keep p xs)) t (every-keep xs)) (λ e. every-keep xs)
-
-  -- a test that holds of each element holds of each that another keeps
-  pub every-kept : (q : A → Bool) (xs : List A) → T (every q xs) → T (every q (keep p xs))
-  every-kept q [] t = t
-  every-kept q (x ∷ xs) t =
-      let rest = every-kept q xs (T-and-right (q x) (every q xs) t) in
-      pick-cases (λ l. T (every q l)) (p x) (x ∷ keep p xs) (keep p xs) (λ u. T-and (q x) (every q (keep p xs)) (T-and-left (q x) (every q xs) t) rest) (λ e. rest)
-
-  -- it holds of none, so none is kept
-  pub keep-none : (xs : List A) → some-of p xs ≡ false → keep p xs ≡ []
-  keep-none [] e = refl
-  keep-none (x ∷ xs) e =
-      let both = or-false-both (p x) (some-of p xs) e in
-      rw (both .0) (keep-none xs (both .1))
-
-  -- of what another test keeps: all, or nothing, where that test is the same on each
-  pub keep-keep : (q : A → Bool) (b : Bool) → ((x : A) → T (p x) → q x ≡ b) → (xs : List A) → keep p (keep q xs) ≡ pick b (keep p xs) []
-  keep-keep q true h [] = refl
-  keep-keep q false h [] = refl
-  keep-keep q b h (x ∷ xs) =
-      ⊎-elim
-      (λ t. rw (h x t) (kept b (T-true (p x) t) (keep-keep q b h xs)))
-      (λ e. pick-cases (λ l. keep p l ≡ pick b (pick (p x) (x ∷ keep p xs) (keep p xs)) []) (q x) (x ∷ keep q xs) (keep q xs)
-      (λ t. rw e (keep-keep q b h xs))
-      (λ f. rw e (keep-keep q b h xs)))
-      (decide (p x))
-    where
-      kept : (c : Bool) → p x ≡ true → keep p (keep q xs) ≡ pick c (keep p xs) []
-          → keep p (pick c (x ∷ keep q xs) (keep q xs)) ≡ pick c (pick (p x) (x ∷ keep p xs) (keep p xs)) []
-      kept true t e = rw (t, e)
-      kept false t e = e
-
-  -- what is left behind so many, with one element more
-  pub drop-keep-snoc : {B : Type 0} (xs : List A) (x : A) (l : List B)
-      → drop (length (keep p (xs ++ (x ∷ [])))) l ≡ pick (p x) (drop 1 (drop (length (keep p xs)) l)) (drop (length (keep p xs)) l)
-  drop-keep-snoc xs x l =
-      rw (keep-append xs (x ∷ []), length-append, ← drop-drop)
-      (pick-cases (λ k. drop (length k) (drop (length (keep p xs)) l) ≡ pick (p x) (drop 1 (drop (length (keep p xs)) l)) (drop (length (keep p xs)) l)) (p x) (x ∷ []) []
-      (λ t. rw (T-true (p x) t))
-      (λ e. rw e))
-
--- an element is the first of what is left behind those before it
-pub getElem?-drop : {A : Type 0} (n : ℕ) (l : List A) → getElem? l n ≡ getElem? (drop n l) 0
-getElem?-drop zero l = refl
-getElem?-drop (suc n) [] = refl
-getElem?-drop (suc n) (x ∷ l) = getElem?-drop n l
-
--- a test that holds of each element holds of each that is left
-pub every-drop : {A : Type 0} (p : A → Bool) (n : ℕ) (l : List A) → T (every p l) → T (every p (drop n l))
-every-drop p zero l t = t
-every-drop p (suc n) [] t = t
-every-drop p (suc n) (x ∷ l) t = every-drop p n l (T-and-right (p x) (every p l) t)
 
 -- ---- fields and slots with an ID
 

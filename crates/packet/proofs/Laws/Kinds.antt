@@ -13,7 +13,8 @@ use Rattle.packet.specs.declared.kind.Numbers.{Numbers}
 use Rattle.packet.specs.Header.{lettersIn, numberIn}
 use Rattle.packet.specs.Kind.{Kind, kinds, hasKind, kindAmong, kindOf, settled, slotsOf}
 use Rattle.packet.specs.Inner.{mcv2Kind, kindNumbered}
-use Rattle.packet.proofs.Laws.Letters.{same-bigOf}
+use Rattle.octets.proofs.Choice.{NoneFrom, none-from, pick-same}
+use Rattle.octets.proofs.Big.{same-bigOf}
 
 -- ---- by number
 
@@ -29,25 +30,9 @@ of-seven P a b c d e f g (suc (suc (suc (suc (suc (suc zero)))))) h l = f
 of-seven P a b c d e f g (suc (suc (suc (suc (suc (suc (suc zero))))))) h l = g
 of-seven P a b c d e f g (suc (suc (suc (suc (suc (suc (suc (suc k)))))))) h l = absurd (omega arith)
 
--- none of the first six, as the last arm of a `match` on a kind is told
-abbrev pub NotFirstSix : ℕ → Type 0
-NotFirstSix kind =
-    (((((Unit {0} × (kind ≡ 1 → ⊥)) × (kind ≡ 2 → ⊥)) × (kind ≡ 3 → ⊥)) × (kind ≡ 4 → ⊥)) × (kind ≡ 5 → ⊥)) × (kind ≡ 6 → ⊥)
-
--- so it is the seventh
-pub seventh : (kind : ℕ) → 0 < kind → kind < 8 → NotFirstSix kind → kind ≡ 7
-seventh kind h l =
-    of-seven (λ k. NotFirstSix k → k ≡ 7)
-    (λ n. absurd (n .0 .0 .0 .0 .0 .1 refl))
-    (λ n. absurd (n .0 .0 .0 .0 .1 refl))
-    (λ n. absurd (n .0 .0 .0 .1 refl))
-    (λ n. absurd (n .0 .0 .1 refl))
-    (λ n. absurd (n .0 .1 refl))
-    (λ n. absurd (n .1 refl))
-    (λ n. refl)
-    kind
-    h
-    l
+-- the last arm of a `match` on a kind is the seventh's
+pub seventh : (kind : ℕ) → 0 < kind → kind < 8 → NoneFrom 1 6 kind → kind ≡ 7
+seventh kind h l t = omega (arith, none-from 1 6 kind h t)
 
 module _ (n : Numbers) where
   -- each of 1 to 7 is that of a kind
@@ -89,11 +74,6 @@ pick-under {ℓ} : {A : Type ℓ} (f : ℕ → A) (m b : Bool) (k rest : ℕ)
 pick-under f true true k rest = refl
 pick-under f true false k rest = refl
 pick-under f false b k rest = refl
-
--- a choice between the same is no choice
-pick-same {ℓ} : {A : Type ℓ} (b : Bool) (x : A) → pick b x x ≡ x
-pick-same true x = refl
-pick-same false x = refl
 
 module _ (p : List ℕ) (octets : (i : ℕ) → getD p i 0 < 256) (long : 12 ≤ length p) where
   -- whether the letters are given ones

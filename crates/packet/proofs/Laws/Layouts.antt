@@ -4,20 +4,21 @@ use mathlib.Core.Path.{_≡_, refl, sym, ap, ap₂, _∙_}
 use mathlib.Core.Logic.{⊎-elim}
 use mathlib.Core.Bool.{false, _&&_}
 use mathlib.Core.List.{List, [], _∷_, _++_, map, append-assoc}
-use Prim.Native.Nat.{ℕ, suc, _+_, _-_, _%_, _≤_}
+use Prim.Native.Nat.{ℕ, suc, _+_, _-_, _≤_}
 use native.Mathlib.Nat.{add-zero, add-assoc, eq-or-lt-of-le}
 use native.Mathlib.Omega.{arith}
 use lib.ListN.{length, getD, take, drop, replicate, length-append, length-drop, length-replicate, take-append-drop}
 use lib.Seq.{drop-cons, drop-drop, drop-append-seam, take-append-add, take-append-seam, take-at, take-all, length-take-le, getD-drop}
-use lib.Dec.{T, ltb, leb, eqb, lt→ltb, le→leb, leb→le, eqb→eq}
+use lib.Dec.{T, ltb, leb, eqb, lt→ltb, le→leb, eqb→eq}
 use borrow.Author.Tests.{eq-eqb, eqb-false}
 use Rattle.octets.specs.Choice.{every}
 use Rattle.octets.specs.Buffer.{padded}
 use Rattle.octets.proofs.Choice.{false-T, T-and, T-and-left, T-and-right, true-T, every-replicate}
-use Rattle.packet.specs.Header.{firstField, word, sizeRight}
+use Rattle.packet.specs.Header.{firstField}
 use Rattle.packet.specs.Walk.{toWord, valueEnd, nextAt, padding, zeros, fieldRight, fieldAt, valueOf, fieldsFrom, stopFrom, fieldsOf, whole}
 use Rattle.packet.specs.Layout.{Content, laid, laidAll, idRight, idsRight, contentOf, contentsOf}
-use Rattle.packet.specs.Claims.{Headed, WholeExactly, LaidOnce, WalkMeets, FaultExactly}
+use Rattle.packet.specs.Claims.{WholeExactly, LaidOnce, WalkMeets, FaultExactly}
+use Rattle.packet.proofs.Laws.Sized.{sized}
 use Rattle.packet.proofs.Laws.Walk.{next-after, valueEnd-next, right-next, right-id, right-padding, right-end, fieldsFrom-right, stopFrom-right, fieldsFrom-wrong, stopFrom-wrong, stopFrom-le, walk-ind}
 
 -- ---- zeros
@@ -200,11 +201,6 @@ walk-met p = walk-ind p (Met p) (met-stops p) (met-goes p)
 
 -- ---- the claims
 
--- a packet past check 1 has a header
-headed-least : (p : List ℕ) → Headed p → firstField ≤ length p
-unfolding sizeRight
-headed-least p h = leb→le firstField (length p) (T-and-left (leb firstField (length p)) (leb (length p) 256 && eqb (length p % word) 0) (h .0))
-
 -- a list of layouts is met by a walk to the end
 laid-stop : (p : List ℕ) (cs : List Content) (at : ℕ) → at ≤ length p → T (idsRight cs) → drop at p ≡ laidAll cs → stopFrom p at ≡ length p
 unfolding laidAll idsRight
@@ -241,14 +237,14 @@ pub whole-exactly : WholeExactly
 unfolding whole contentsOf fieldsOf contentsFrom
 whole-exactly p h = (
   (λ t. (contentsOf p, walk-met p firstField .ids, walk-meets p t)),
-  λ x. true-T (whole p) (eq-eqb (stopFrom p firstField) (length p) (laid-stop p (x .0) firstField (headed-least p h) (x .1) (x .2))),
+  λ x. true-T (whole p) (eq-eqb (stopFrom p firstField) (length p) (laid-stop p (x .0) firstField (sized p (h .0) .least) (x .1) (x .2))),
 )
 
 pub fault-exactly : FaultExactly
 unfolding whole contentsOf fieldsOf contentsFrom
 fault-exactly p h e =
     let m = walk-met p firstField in
-    let stop = stopFrom-le p firstField (headed-least p h) in
+    let stop = stopFrom-le p firstField (sized p (h .0) .least) in
     let short = eqb-false (stopFrom p firstField) (length p) e in (
       ⊎-elim (λ q. absurd (short q)) (λ l. l) (eq-or-lt-of-le stop),
       m .ids,

@@ -5,10 +5,10 @@ use mathlib.Core.Bool.{Bool, true, false}
 use mathlib.Core.List.{List, _∷_}
 use mathlib.Core.Option.{Option, none, some}
 use Prim.Native.Nat.{ℕ, _+_}
-use native.Mathlib.Omega.{arith}
 use lib.ListN.{length, getD, take, drop}
 use lib.Dec.{T, leb, eqb, le→leb}
 use Rattle.octets.specs.Choice.{every}
+use Rattle.octets.proofs.Keep.{every-kept}
 use Rattle.octets.proofs.Choice.{true-T, T-and, T-and-left, T-and-right}
 use Rattle.sheet.specs.Judge.{userId}
 use Rattle.sheet.specs.Value.{validAlone}
@@ -16,14 +16,14 @@ use Rattle.packet.specs.declared.field.Field.{Field}
 use Rattle.packet.specs.declared.kind.Form.{Form}
 use Rattle.packet.specs.declared.kind.Form.the-variants.{UserId, Number, Cause, Result, MessageType, Barred}
 use Rattle.packet.specs.declared.kind.Numbers.{Numbers}
-use Rattle.packet.specs.Header.{firstField, sizeRight, headRight}
-use Rattle.packet.specs.Walk.{valueEnd, nextAt, fieldAt, fieldsFrom, fieldsOf, valueOf, whole}
+use Rattle.packet.specs.Header.{sizeRight, headRight}
+use Rattle.packet.specs.Walk.{fieldAt, fieldsOf, valueOf, whole}
 use Rattle.packet.specs.Judge.{Held, fits, heldIn, fieldsWith, granted, faultOf}
 use Rattle.packet.specs.Kind.{Row, Kind, kindOf, slotsOf, numbersOf}
 use Rattle.packet.specs.Reading.{Outcome, reads, check, readAs, readBy, readOf, slotsIn, messageOf}
 use Rattle.packet.specs.Claims.{useful, Arranged, present, Allows, AllowsAll, nameRight, NamesRight}
-use Rattle.packet.proofs.Laws.Walk.{valueEnd-next, right-next, fieldsFrom-right, fieldsFrom-wrong, walk-ind}
-use Rattle.packet.proofs.Laws.Judging.{every-kept, fieldsWith-every}
+use Rattle.packet.proofs.Laws.Walk.{right-inside, every-field}
+use Rattle.packet.proofs.Laws.Judging.{fieldsWith-every}
 use Rattle.packet.proofs.Laws.Allowed.{uses, allowed-ind, judged-allowed}
 use Rattle.packet.proofs.Laws.Accepts.{messageOf-reads}
 
@@ -35,15 +35,9 @@ inside p f = leb (f .at + 2 + f .len) (length p)
 
 -- .. that of each field that the walk meets
 every-inside : (p : List ℕ) → T (every (inside p) (fieldsOf p))
-unfolding fieldsOf
+unfolding fieldAt
 every-inside p =
-    walk-ind p (λ at. T (every (inside p) (fieldsFrom p at)))
-    (λ at e. rw (fieldsFrom-wrong p at e) tt)
-    (λ at t h. rw (fieldsFrom-right p at t)
-    (T-and (inside p (fieldAt p at)) (every (inside p) (fieldsFrom p (nextAt p at)))
-    (unfold fieldAt valueEnd in le→leb (at + 2 + getD p (at + 1) 0) (length p) (omega (arith, valueEnd-next p at, right-next p at t)))
-    h))
-    firstField
+    every-field p (inside p) (λ at h t. le→leb (at + 2 + getD p (at + 1) 0) (length p) (right-inside p at t .1))
 
 -- ---- the value of a field
 

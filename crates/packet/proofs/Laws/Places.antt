@@ -3,7 +3,7 @@
 use mathlib.Core.Path.{_≡_, refl, sym, ap, _∙_}
 use mathlib.Core.Logic.{⊎-elim}
 use mathlib.Core.Bool.{Bool, true, false, not, _&&_}
-use mathlib.Core.List.{List, [], _∷_, _++_, map, append-nil}
+use mathlib.Core.List.{List, [], _∷_, _++_, map}
 use mathlib.Core.Option.{Option, none, some}
 use Prim.Native.Nat.{ℕ, zero, suc, _+_, _≤_, _<_, zero-le, suc-le-suc}
 use native.Mathlib.Nat.{zero-add}
@@ -12,8 +12,10 @@ use native.Mathlib.Omega.{arith}
 use lib.ListN.{length, getD, set, replicate, getElem?, length-append}
 use lib.Dec.{T, leb, ltb, eqb, eqb-refl, leb·zero, leb·suc-zero, leb·suc-suc, ltb→lt, le→leb}
 use borrow.Author.Tests.{eqb-true, ne-eqb, le-leb, lt-leb}
-use Rattle.octets.specs.Choice.{pick, every, keep, some-of}
+use Rattle.octets.specs.Choice.{pick, every, some-of}
 use Rattle.octets.proofs.Choice.{T-true, decide, T-and, T-and-left, T-and-right}
+use Rattle.octets.proofs.Lists.{getElem?-snoc, getElem?-snoc-other}
+use Rattle.octets.proofs.Keep.{every-kept, keep-snoc-true, keep-snoc-false}
 use Rattle.octets.proofs.Places.{eqb-comm}
 use Rattle.packet.specs.declared.field.Field.{Field}
 use Rattle.packet.specs.declared.kind.Form.{Form}
@@ -23,31 +25,8 @@ use Rattle.packet.specs.declared.judge.Use.{Use}
 use Rattle.packet.specs.declared.judge.Use.the-variants.{Fills, Repeats, Skipped}
 use Rattle.packet.specs.Judge.{fits, fieldsWith, slotsWith, formFor, atFault, Filled, filledBehind, filledIn, isAbsent, lacking}
 use Rattle.packet.specs.Inner.{placeOf, placesIn, PlacesInside, openIn, lackIn, later, again}
-use Rattle.packet.proofs.Laws.Judging.{keep-append, every-kept, inUse, slotsWith-none}
+use Rattle.packet.proofs.Laws.Judging.{inUse, slotsWith-none}
 use Rattle.packet.proofs.Laws.Slots.{blank}
-
--- ---- one element more
-
-module _ {A : Type 0} where
-  -- it is kept
-  keep-snoc-true : (p : A → Bool) (xs : List A) (x : A) → p x ≡ true → keep p (xs ++ (x ∷ [])) ≡ keep p xs ++ (x ∷ [])
-  keep-snoc-true p xs x e = keep-append p xs (x ∷ []) ∙ rw e
-
-  -- it is not
-  keep-snoc-false : (p : A → Bool) (xs : List A) (x : A) → p x ≡ false → keep p (xs ++ (x ∷ [])) ≡ keep p xs
-  keep-snoc-false p xs x e = keep-append p xs (x ∷ []) ∙ rw e (append-nil (keep p xs))
-
-  -- it stands at the end
-  getElem?-snoc : (xs : List A) (x : A) → getElem? (xs ++ (x ∷ [])) (length xs) ≡ some x
-  getElem?-snoc [] x = refl
-  getElem?-snoc (y ∷ xs) x = getElem?-snoc xs x
-
-  -- and nowhere else
-  getElem?-snoc-other : (xs : List A) (x : A) (k : ℕ) → (length xs ≡ k → ⊥) → getElem? (xs ++ (x ∷ [])) k ≡ getElem? xs k
-  getElem?-snoc-other [] x zero n = absurd (n refl)
-  getElem?-snoc-other [] x (suc k) n = refl
-  getElem?-snoc-other (y ∷ xs) x zero n = refl
-  getElem?-snoc-other (y ∷ xs) x (suc k) n = getElem?-snoc-other xs x k (λ e. n (ap suc e))
 
 -- ---- how many slots and fields have an ID
 

@@ -8,13 +8,14 @@ use lib.ListN.{length, replicate, length-map}
 use lib.Dec.{eqb}
 use Rattle.octets.specs.Choice.{some-of}
 use Rattle.octets.specs.Buffer.{padded}
-use Rattle.octets.proofs.Choice.{some-of-append}
+use Rattle.octets.proofs.Choice.{or-false-both, some-of-append}
+use Rattle.octets.proofs.Keep.{keep-append, keep-none}
 use Rattle.octets.proofs.Places.{eqb-comm}
 use Rattle.packet.specs.declared.field.Field.{Field}
 use Rattle.packet.specs.declared.kind.Slot.{Slot}
 use Rattle.packet.specs.Judge.{fieldsWith, slotsWith, formFor, atFault, faultAmong, filledBehind, filledIn, isAbsent, lacking, missingAt, faultOf}
 use Rattle.packet.specs.Inner.{placesIn}
-use Rattle.packet.proofs.Laws.Judging.{or-false-both, keep-append, keep-none, inUse}
+use Rattle.packet.proofs.Laws.Judging.{inUse}
 
 -- slots behind others are filled behind them
 pub filledBehind-append : (earlier xs ys : List Slot) (fs : List Field)

@@ -2,19 +2,21 @@
 -- field lies. Assumes nothing.
 use mathlib.Core.Path.{_≡_, refl, sym, ap, _∙_}
 use mathlib.Core.Logic.{⊎-elim}
-use mathlib.Core.Bool.{false, _&&_}
+use mathlib.Core.Bool.{Bool, false, _&&_}
 use mathlib.Core.List.{List, [], _∷_}
 use Prim.Native.Nat.{ℕ, zero, suc, _+_, _-_, _%_, _≤_, _<_}
-use native.Mathlib.Nat.{sub-zero, zero-sub, suc-sub-suc}
 use native.Mathlib.Numerals.{add-one}
 use native.Mathlib.Omega.{arith}
-use lib.ListN.{length, getD, take, drop, length-take, drop-of-length-le}
-use lib.Seq.{slice, slice-cons, take-nil}
+use lib.ListN.{length, getD, take, length-take, drop-of-length-le}
+use lib.Seq.{slice, slice-cons}
 use lib.Dec.{T, leb, ltb, leb→le, ltb→lt}
 use borrow.Author.Tests.{lt-ltb, le-leb, eq-eqb, ne-eqb}
-use Rattle.octets.specs.Choice.{pick}
-use Rattle.octets.proofs.Choice.{T-true, T-false, T-and-left, T-and-right, true-T, false-T, decide, pick-false}
-use Rattle.packet.specs.Walk.{toWord, valueEnd, nextAt, padding, zeros, fieldRight, fieldAt, fieldsBy, stopBy, fieldsFrom, stopFrom}
+use Rattle.octets.specs.Choice.{every, pick}
+use Rattle.octets.proofs.Lists.{take-drop-slice}
+use Rattle.octets.proofs.Choice.{T-and, T-true, T-false, T-and-left, T-and-right, true-T, false-T, decide, pick-false}
+use Rattle.packet.specs.declared.field.Field.{Field}
+use Rattle.packet.specs.Header.{firstField}
+use Rattle.packet.specs.Walk.{fieldsOf, toWord, valueEnd, nextAt, padding, zeros, fieldRight, fieldAt, fieldsBy, stopBy, fieldsFrom, stopFrom}
 
 -- ---- where a field lies
 
@@ -40,6 +42,15 @@ right-next p at t =
     let ends = leb (nextAt p at) (length p) in
     let behind = zeros (padding p at) in
     leb→le (nextAt p at) (length p) (T-and-left ends behind (T-and-right (ltb (getD p at 0) 192) (ends && behind) t))
+
+-- it is four octets long at least, and its value ends in the packet
+pub right-inside : (p : List ℕ) (at : ℕ) → T (fieldRight p at) → (at + 4 ≤ length p) × (at + 2 + getD p (at + 1) 0 ≤ length p)
+unfolding valueEnd
+right-inside p at t =
+    let next = right-next p at t in
+    let least = next-after p at in
+    let value = valueEnd-next p at in
+    (omega arith, omega arith)
 
 -- its ID is below 192
 pub right-id : (p : List ℕ) (at : ℕ) → T (fieldRight p at) → getD p at 0 < 192
@@ -73,13 +84,6 @@ pub right-end : (p : List ℕ) (at : ℕ) → length p ≤ at → fieldRight p a
 right-end p at h = wrong-next p at (omega (arith, next-after p at))
 
 -- ---- the padding, octet by octet
-
--- so many of what is left from a place on are those up to an end
-take-drop-slice {ℓ} : {A : Type ℓ} (a e : ℕ) (l : List A) → take (e - a) (drop a l) ≡ slice a e l
-take-drop-slice zero e l = rw sub-zero
-take-drop-slice (suc a) e [] = rw (take-nil (e - suc a), take-nil e)
-take-drop-slice (suc a) zero (x ∷ l) = rw zero-sub
-take-drop-slice (suc a) (suc e) (x ∷ l) = rw suc-sub-suc (take-drop-slice a e l)
 
 -- the padding stands from the value's end to the next field
 pub padding-slice : (p : List ℕ) (at : ℕ) → padding p at ≡ slice (valueEnd p at) (nextAt p at) p
@@ -177,3 +181,17 @@ stopFrom-le p =
     walk-ind p (λ at. at ≤ length p → stopFrom p at ≤ length p)
     (λ at e h. rw (stopFrom-wrong p at e) h)
     (λ at t r h. rw (stopFrom-right p at t) (r (right-next p at t)))
+
+-- at a place of a walk that goes to the end: the next one's place
+pub whole-next : (p : List ℕ) (at : ℕ) → stopFrom p at ≡ length p → at < length p → (at + 4 ≤ nextAt p at) × (nextAt p at ≤ length p)
+whole-next p at e h = (next-after p at, right-next p at (stopFrom-whole p at e h))
+
+-- what holds of each right field behind the header holds of each field of the packet
+pub every-field : (p : List ℕ) (q : Field → Bool) → ((at : ℕ) → firstField ≤ at → T (fieldRight p at) → T (q (fieldAt p at))) → T (every q (fieldsOf p))
+unfolding fieldsOf
+every-field p q h =
+    walk-ind p (λ at. firstField ≤ at → T (every q (fieldsFrom p at)))
+    (λ at e l. rw (fieldsFrom-wrong p at e) tt)
+    (λ at t r l. rw (fieldsFrom-right p at t) (T-and (q (fieldAt p at)) (every q (fieldsFrom p (nextAt p at))) (h at l t) (r (omega (arith, next-after p at)))))
+    firstField
+    (omega arith)

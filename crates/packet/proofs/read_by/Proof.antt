@@ -1,49 +1,29 @@
 -- `packet::read_by` meets its contract: the checks in their order, each with the refusal that `readBy` gives there.
 -- Assumes nothing.
 use mathlib.Core.Path.{_≡_, refl, sym, _∙_}
-use mathlib.Core.Bool.{true, _&&_}
-use mathlib.Core.List.{List}
-use Prim.Native.Nat.{ℕ, _%_, _≤_, _<_}
+use Prim.Native.Nat.{_≤_, _<_}
 use native.Mathlib.Nat.{pos-of-ne-zero, le-antisymm}
 use borrow.Author.Needs.{needs}
 use borrow.Author.Tests.{ne-eqb, not-true, not-false}
 use native.Mathlib.Omega.{arith}
 use denote.Ref.{now}
 use lib.ListN.{length}
-use lib.Dec.{leb, eqb, leb→le, eqb→eq}
-use Rattle.octets.proofs.Choice.{true-T, T-and-left, T-and-right}
-use Rattle.packet.specs.Header.{firstField, word, sizeRight}
+use Rattle.octets.proofs.Choice.{true-T}
+use Rattle.packet.specs.Header.{firstField, sizeRight}
 use Rattle.packet.specs.Walk.{stopFrom, whole}
 use Rattle.packet.specs.Reading.{readAs, readBy}
 use Rattle.packet.specs.Inner.{kindNumbered}
+use Rattle.packet.proofs.Laws.Sized.{Sized, sized}
 use Rattle.packet.proofs.Laws.Walk.{stopFrom-le}
 use Rattle.packet.proofs.Laws.Values.{readAs-cut}
 use Rattle.packet.proofs.read_by.Statement.{statement}
 use Rattle.packet.proofs.read_by.Tie as tie
 
--- what check 1 says of a packet's size
-record Sized (p : List ℕ) : Type 0 where
-  least : firstField ≤ length p
-  most : length p ≤ 256
-  words : length p % word ≡ 0
-
-sized : (p : List ℕ) → sizeRight p ≡ true → Sized p
-unfolding sizeRight
-sized p e =
-    let a = leb firstField (length p) in
-    let b = leb (length p) 256 in
-    let c = eqb (length p % word) 0 in
-    let t = true-T (a && (b && c)) e in
-    let u = T-and-right a (b && c) t in
-    record {
-      least = leb→le firstField (length p) (T-and-left a (b && c) t);
-      most = leb→le (length p) 256 (T-and-left b c u);
-      words = eqb→eq (length p % word) 0 (T-and-right b c u);
-    }
-
 -- the packet past check 1
 past-size : (c : tie.Else1) → Sized (now (c .before .before .before .args .packet))
-past-size c = sized (now (c .before .before .before .args .packet)) (sym (c .before .is-size-right .ensures) ∙ not-false _ (c .if1 .left))
+past-size c =
+    let p = now (c .before .before .before .args .packet) in
+    sized p (true-T (sizeRight p) (sym (c .before .is-size-right .ensures) ∙ not-false _ (c .if1 .left)))
 
 is-size-right-requires : tie.Need-is-size-right-requires
 is-size-right-requires c κs = search needs

@@ -1,10 +1,10 @@
 -- `packet::read_kind` meets its contract: judging finds a fault, or the places by which the message has its values.
 -- Assumes nothing.
-use mathlib.Core.Path.{_≡_, refl, sym, ap, _∙_}
+use mathlib.Core.Path.{sym, ap, _∙_}
 use mathlib.Core.Bool.{_&&_}
 use mathlib.Core.List.{List}
-use mathlib.Core.Option.{some}
-use Prim.Native.Nat.{ℕ, zero, suc}
+use Prim.Native.Nat.{ℕ}
+use native.Mathlib.Nat.{pos-of-ne-zero}
 use borrow.Author.Needs.{needs}
 use borrow.Author.Tests.{eq-eqb}
 use denote.Ref.{now}
@@ -15,6 +15,7 @@ use Rattle.packet.specs.Header.{firstField}
 use Rattle.packet.specs.Walk.{fieldsOf, stopFrom, whole}
 use Rattle.packet.specs.Judge.{granted}
 use Rattle.packet.specs.Inner.{Walked, JudgedIs, placed, slotsNumbered}
+use Rattle.packet.proofs.Laws.Judged.{placed-some}
 use Rattle.packet.proofs.Laws.Values.{readAs-faulty, readAs-right}
 use Rattle.packet.proofs.read_kind.Statement.{statement}
 use Rattle.packet.proofs.read_kind.Tie as tie
@@ -23,11 +24,6 @@ use Rattle.packet.proofs.read_kind.Tie as tie
 walked-whole : (p : List ℕ) → Walked p → T (whole p)
 unfolding whole
 walked-whole p w = true-T (eqb (stopFrom p firstField) (length p)) (eq-eqb (stopFrom p firstField) (length p) (w .whole))
-
--- a place that is not 0 is one
-placed-some : (n : ℕ) → (n ≡ 0 → ⊥) → placed n ≡ some n
-placed-some zero h = absurd (h refl)
-placed-some (suc n) h = refl
 
 is-granted-requires : tie.Need-is-granted-requires
 is-granted-requires c κs = search needs
@@ -55,7 +51,7 @@ returns c =
     let fault = after .judge .result .fault in
     c .refused .ensures
     ∙ sym (readAs-faulty (a .numbers) (now (a .packet)) (a .kind) (start .pre .0) (start .pre .1) (walked-whole (now (a .packet)) (start .pre .2)) fault
-    (judged after .fault ∙ placed-some fault (c .before .if1 .taken)))
+    (judged after .fault ∙ placed-some fault (pos-of-ne-zero (c .before .if1 .taken))))
 
 message-of-requires : tie.Need-message-of-requires
 message-of-requires c κs = search needs

@@ -1,13 +1,11 @@
 -- Laws on the table of lines: what holds of every row is one test, computed at each. Assumes nothing.
-use mathlib.Core.Path.{_≡_, refl, sym}
-use mathlib.Core.Logic.{⊎-elim}
+use mathlib.Core.Path.{_≡_, refl}
 use mathlib.Core.Bool.{Bool, true, false, not, _&&_, Bool·beq}
-use Prim.Native.Nat.{ℕ, zero, suc, _-_, _≤_, _<_, zero-le}
-use native.Mathlib.Nat.{eq-or-lt-of-le}
+use Prim.Native.Nat.{ℕ, suc, _-_, _≤_, _<_, zero-le}
 use lib.ListN.{length, take, drop, List·getD-eq-default}
 use lib.Dec.{T, T-not, leb, ltb, eqb, leb→le, eqb→eq}
 use Rattle.octets.specs.Choice.{same, every}
-use Rattle.octets.proofs.Choice.{T-false, T-and-left, T-and-right, same-eq, every-getD, every-getD-or, allBelow, below}
+use Rattle.octets.proofs.Choice.{T-false, T-and-left, T-and-right, same-eq, every-getD, every-getD-or, allBelow, below, NoneFrom, none-from}
 use Rattle.sheet.specs.declared.table.Rule.{Rule}
 use Rattle.sheet.specs.Table.{Row, table, seatRow, numberLines, rowAt}
 use Rattle.sheet.specs.Line.{lf}
@@ -100,17 +98,7 @@ right-rule k c t =
 pub rule-at : (i : ℕ) (c : Rule) → T (right (rowAt i) c) → {k : ℕ} → k ≡ i → RuleOf k c
 rule-at i c t e = rw e (right-rule i c t)
 
--- a number is none of those below n
-abbrev pub NoneBelow : ℕ → ℕ → Type 0
-NoneBelow zero k = Unit {0}
-NoneBelow (suc n) k = NoneBelow n k × (k ≡ n → ⊥)
-
--- so it is n or more
-none-below : (n k : ℕ) → NoneBelow n k → n ≤ k
-none-below zero k h = zero-le
-none-below (suc n) k h =
-    ⊎-elim (λ e. absurd (h .1 (sym e))) (λ l. l) (eq-or-lt-of-le (none-below n k (h .0)))
-
 -- and the code's rule of every other line is a seat's
-pub rule-seat : (c : Rule) → T (right seatRow c) → {k : ℕ} → NoneBelow numberLines k → RuleOf k c
-rule-seat c t {k} h = right-rule k c (rw (rowAt-seat k (none-below numberLines k h)) t)
+pub rule-seat : (c : Rule) → T (right seatRow c) → {k : ℕ} → NoneFrom 0 numberLines k → RuleOf k c
+unfolding numberLines table
+rule-seat c t {k} h = right-rule k c (rw (rowAt-seat k (none-from 0 numberLines k zero-le h)) t)

@@ -7,7 +7,7 @@ use borrow.Author.Needs.{needs}
 use borrow.Author.Tests.{eq-eqb, ne-eqb}
 use Rattle.packet.specs.Walk.{fieldAt, valueOf}
 use Rattle.packet.specs.Judge.{fits, numberAt}
-use Rattle.packet.proofs.Laws.Judged.{right-inside}
+use Rattle.packet.proofs.Laws.Walk.{right-inside}
 use Rattle.packet.proofs.judge.fits.Statement.{statement}
 use Rattle.packet.proofs.judge.fits.Tie as tie
 

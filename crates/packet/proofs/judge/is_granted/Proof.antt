@@ -10,8 +10,8 @@ use borrow.Author.Tests.{eq-eqb, ne-eqb}
 use Rattle.octets.specs.Big.{bigAt}
 use Rattle.packet.specs.Walk.{nextAt, fieldRight, fieldsOf, fieldsFrom, stopFrom}
 use Rattle.packet.specs.Judge.{granted}
-use Rattle.packet.proofs.Laws.Walk.{stopFrom-right, stopFrom-whole}
-use Rattle.packet.proofs.Laws.Judged.{whole-next, granted-end, granted-first, granted-next}
+use Rattle.packet.proofs.Laws.Walk.{whole-next, stopFrom-right, stopFrom-whole}
+use Rattle.packet.proofs.Laws.Judged.{granted-end, granted-first, granted-next}
 use Rattle.packet.proofs.judge.is_granted.Statement.{statement}
 use Rattle.packet.proofs.judge.is_granted.Tie as tie
 

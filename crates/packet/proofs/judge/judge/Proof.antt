@@ -10,7 +10,8 @@ use borrow.Author.Tests.{not-true, not-false}
 use Rattle.packet.specs.declared.judge.Use.the-variants.{Fills}
 use Rattle.packet.specs.Walk.{nextAt}
 use Rattle.packet.specs.Inner.{openIn}
-use Rattle.packet.proofs.Laws.Judged.{whole-next, Judging, judging-first, judging-right, judging-slot, judging-fills, judging-skips, judged-wrong, judged-repeat, judged-lacking, judged-right}
+use Rattle.packet.proofs.Laws.Walk.{whole-next}
+use Rattle.packet.proofs.Laws.Judged.{Judging, judging-first, judging-right, judging-slot, judging-fills, judging-skips, judged-wrong, judged-repeat, judged-lacking, judged-right}
 use Rattle.packet.proofs.judge.judge.Statement.{statement}
 use Rattle.packet.proofs.judge.judge.Tie as tie
 
