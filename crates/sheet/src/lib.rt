@@ -87,32 +87,16 @@ pub fn users(text: &[u8]) -> Users
 pub fn valid(sheet: Sheet) -> bool
     ensures { λ r. ⌜ valid≡ sheet r ⌝ }
 {
-    let seats = sheet.seats;
-    if MOST_SEATS < seats {
-        return false;
-    }
     let numbers = number::numbers_of(sheet);
-    let lines = table::NUMBER_LINES + (seats as usize);
-    let mut k = 0;
-    while k < table::LINES {
-        let n = numbers[k];
-        if k < lines {
-            if !number::is_good_number(&numbers, k, n as u64) {
-                return false;
-            }
-        } else if n != 0 {
-            return false;
-        }
-        k += 1;
-    }
-    true
+    number::are_good(&numbers)
 }
 
 // Whether some sheet reads to this struct and these User IDs.
 pub fn valid_with(sheet: Sheet, users: &Users) -> bool
     ensures { λ r. ⌜ valid-with≡ sheet (now (users .entry)) r ⌝ }
 {
-    if !valid(sheet) {
+    let numbers = number::numbers_of(sheet);
+    if !number::are_good(&numbers) {
         return false;
     }
     let seats = sheet.seats;

@@ -90,6 +90,24 @@ few-seats s t =
 pub many-seats : (s : Sheet) → mostSeats < s .seats → validAlone s ≡ false
 many-seats s h = T-false (validAlone s) (λ t. let b : s .seats ≤ mostSeats = few-seats s t in omega arith)
 
+-- ---- a struct by its numbers and the SSRCs behind them
+
+module _ (s : Sheet) (ns : List ℕ) (e : ns ≡ numbersOf s ++ s .ssrcs) (long : length ns ≡ numberLines + mostSeats) where
+  -- the last of the numbers says how many seats there are
+  seats-number : getD ns seatsLine 0 ≡ s .seats
+  unfolding numbersOf seatsLine numberLines table
+  seats-number = rw e
+
+  -- few seats: it is judged number by number
+  pub numbers-judged : getD ns seatsLine 0 ≤ mostSeats → validAlone s ≡ restGood ns (numberLines + getD ns seatsLine 0) 0
+  numbers-judged h =
+      rw (seats-number, e)
+      (restGood-all s (unfold numbersOf numberLines table in omega (arith, long, ap length e)) (rw seats-number at h))
+
+  -- too many: it is no sheet's
+  pub numbers-many : mostSeats < getD ns seatsLine 0 → validAlone s ≡ false
+  numbers-many h = many-seats s (rw seats-number at h)
+
 -- ---- a row is good exactly if a name is laid out in it, none where no seat is, and the name is new
 
 module _ (seats : ℕ) (users : List (List ℕ)) (i : ℕ) where

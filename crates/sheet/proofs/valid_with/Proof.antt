@@ -23,21 +23,28 @@ abbrev μ-loop : tie.MeasureT-loop
 μ-loop users seats rows s₀ s = length users - s
 
 -- it has eight SSRCs
-eight : (c : tie.After-rows Inv-loop μ-loop) → length (c .before .before .before .args .sheet .ssrcs) ≡ mostSeats
+eight : (c : tie.After-rows Inv-loop μ-loop) → length (c .before .before .before .before .before .args .sheet .ssrcs) ≡ mostSeats
 unfolding mostSeats
 eight c = search needs
 
--- the struct is a sheet's
-alone : (c : tie.After-rows Inv-loop μ-loop) → T (validAlone (c .before .before .before .args .sheet))
-alone c = true-T (validAlone (c .before .before .before .args .sheet)) (sym (c .before .before .valid .ensures) ∙ not-false _ (c .before .if1 .left))
+-- whether the struct is a sheet's
+judged : (c : tie.After-are-good Inv-loop μ-loop) → c .are-good .result ≡ validAlone (c .before .before .before .args .sheet)
+judged c = c .are-good .ensures (c .before .before .before .args .sheet) (c .before .before .numbers-of .ensures)
 
-valid-requires : tie.Need-valid-requires Inv-loop μ-loop
-valid-requires c κs = search needs
+-- it is
+alone : (c : tie.After-rows Inv-loop μ-loop) → T (validAlone (c .before .before .before .before .before .args .sheet))
+alone c = true-T _ (sym (judged (c .before .before)) ∙ not-false _ (c .before .if1 .left))
+
+numbers-of-requires : tie.Need-numbers-of-requires Inv-loop μ-loop
+numbers-of-requires c κs = search needs
+
+are-good-requires : tie.Need-are-good-requires Inv-loop μ-loop
+are-good-requires c κs = search needs
 
 returns : tie.Need-returns Inv-loop μ-loop
 returns c =
-    let a = c .before .before .args in
-    sym (not-alone (a .sheet) (a .users .now) (sym (c .before .valid .ensures) ∙ not-true _ (c .if1 .taken)))
+    let a = c .before .before .before .before .args in
+    sym (not-alone (a .sheet) (a .users .now) (sym (judged (c .before)) ∙ not-true _ (c .if1 .taken)))
 
 loop-holds : tie.Need-loop-holds Inv-loop μ-loop
 loop-holds c = (search needs, below-none _)
@@ -50,7 +57,7 @@ unfolding mostSeats
 returns-2 c =
     let in-loop = c .before .before in
     let after = in-loop .before .before in
-    let a = after .before .before .before .args in
+    let a = after .before .before .before .before .before .args in
     let n : length (a .users .now) ≡ 8 = after .rows .given .0 in
     sym (T-false _
     (λ v. false-T _ (sym (c .before .is-good-row .ensures) ∙ not-true _ (c .if2 .taken))
@@ -71,7 +78,7 @@ returns-3 : tie.Need-returns-3 Inv-loop μ-loop
 unfolding mostSeats
 returns-3 c =
     let after = c .before .before in
-    let a = after .before .before .before .args in
+    let a = after .before .before .before .before .before .args in
     let n : length (a .users .now) ≡ 8 = after .rows .given .0 in
     sym (T-true _ (rows-valid (a .sheet) (a .users .now) (eight after) n (alone after) (λ i h. c .before .loop .inv .1 i (omega arith))))
 
@@ -81,7 +88,8 @@ valid-with-spec =
     (tie.spec
     Inv-loop
     μ-loop
-    valid-requires
+    numbers-of-requires
+    are-good-requires
     returns
     loop-holds
     is-good-row-requires
