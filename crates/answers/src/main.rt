@@ -2,14 +2,18 @@
 //
 // Standard input: how many cases there are; then for each an octet for what is asked, a length and that many octets.
 // Standard output: for each case a length and that many octets, the answer. Counts and lengths are four octets, big-endian.
+// What may be asked, 1 to 7, and what then stands in a case and in its answer: question.rt.
+mod message;
+mod number;
 mod question;
+mod step;
 mod value;
 
 ghost use Prim.Native.Nat.{_+_, _≤_};
 ghost use lib.ListN.{length};
 
 // The most octets that an answer takes, with its length before it.
-const MOST: usize = 1024;
+const MOST: usize = question::MOST + 4;
 
 // Puts the answer to one question at the front of out, and gives its length. A question that is not known has an empty one.
 fn answer(asked: u8, body: &[u8], out: &mut [u8]) -> usize
@@ -21,6 +25,8 @@ fn answer(asked: u8, body: &[u8], out: &mut [u8]) -> usize
         3 => question::by_ssrc(body, out),
         4 => question::by_user(body, out),
         5 => question::is_user_id(body, out),
+        6 => question::packets(body, out),
+        7 => question::fields(body, out),
         _ => 0,
     }
 }

@@ -1,8 +1,15 @@
 // One function for each question: takes it from a case's octets, asks, and puts the answer at the front of out.
+use super::message;
+use super::number;
+use super::step;
 use super::value;
 use sheet::Found;
 use sheet::Senders;
-ghost use Prim.Native.Nat.{_≤_};
+ghost use Prim.Native.Nat.{_+_, _≤_};
+ghost use lib.ListN.{length};
+
+// The most octets that an answer has.
+pub const MOST: usize = 1020;
 
 fn put_bool(out: &mut [u8], at: usize, b: bool) {
     value::put_octet(out, at, if b { 1 } else { 0 });
@@ -30,8 +37,7 @@ pub fn read(text: &[u8], out: &mut [u8]) -> usize
     let users = sheet::users(text);
     value::put_sheet(out, read);
     value::put_users(out, &users);
-    octets::put_u32(out, value::LENGTH, (used / 4294967296) as u32);
-    octets::put_u32(out, value::LENGTH + 4, (used % 4294967296) as u32);
+    number::put_long(out, value::LENGTH, used);
     octets::put_u32(out, value::LENGTH + 8, refusal.number);
     octets::put_u32(out, value::LENGTH + 12, refusal.at);
     value::LENGTH + 16
@@ -88,4 +94,69 @@ pub fn is_user_id(body: &[u8], out: &mut [u8]) -> usize
 {
     put_bool(out, 0, sheet::user::is_user_id(body));
     1
+}
+
+// How much of out an answer may take.
+fn room_in(out: &[u8]) -> usize
+    ensures { λ r. ⌜ (r ≤ 1020) × (r ≤ length (now (out .entry))) ⌝ }
+{
+    if MOST < out.len() { MOST } else { out.len() }
+}
+
+// The count at a place, two octets, of the octets behind it; or how many there are, if they are fewer.
+fn count_at(body: &[u8], at: usize) -> usize
+    requires { ⌜ at + 2 ≤ length (now body) ⌝ }
+    ensures { λ r. ⌜ at + 2 + r ≤ length (now (body .entry)) ⌝ }
+{
+    let count = octets::u16_at(body, at) as usize;
+    let rest = body.len() - at - 2;
+    if count < rest { count } else { rest }
+}
+
+// 6: what each packet reads to under the numbers of a value. The packets stand behind those, each behind its count.
+pub fn packets(body: &[u8], out: &mut [u8]) -> usize
+    ensures { λ r. ⌜ r ≤ 1020 ⌝ }
+{
+    if body.len() < value::ROWS {
+        return 0;
+    }
+    let sheet = value::sheet_in(body);
+    let room = room_in(out);
+    let mut at = value::ROWS;
+    let mut put = 0;
+    while 2 <= body.len() - at {
+        if room - put < message::LENGTH {
+            break;
+        }
+        let start = at + 2;
+        at = start + count_at(body, at);
+        let reading = packet::read(sheet, &body[start..at]);
+        message::put_reading(&mut out[put..], reading);
+        put += message::LENGTH;
+    }
+    put
+}
+
+// 7: what stands at each place of some octets. The octets stand behind their count, and the places, eight octets each, behind those.
+pub fn fields(body: &[u8], out: &mut [u8]) -> usize
+    ensures { λ r. ⌜ r ≤ 1020 ⌝ }
+{
+    if body.len() < 2 {
+        return 0;
+    }
+    let end = 2 + count_at(body, 0);
+    let room = room_in(out);
+    let mut at = end;
+    let mut put = 0;
+    while 8 <= body.len() - at {
+        if room - put < step::LENGTH {
+            break;
+        }
+        let place = number::long_at(body, at);
+        let stands = packet::field::field_at(&body[2..end], place);
+        step::put_step(&mut out[put..], stands);
+        at += 8;
+        put += step::LENGTH;
+    }
+    put
 }

@@ -1,10 +1,11 @@
 // A sheet's value among the octets of a case or an answer: its eleven numbers and eight SSRCs, four octets each, then its
 // eight rows of User IDs.
+use super::number;
 use sheet::Sheet;
 ghost use Prim.Native.Nat.{_<_};
 
 // Where the User IDs begin.
-const ROWS: usize = 76;
+pub const ROWS: usize = 76;
 
 // How many octets a value takes.
 pub const LENGTH: usize = ROWS + 480;
@@ -77,42 +78,36 @@ pub fn users_in(body: &[u8]) -> [[u8; 60]; 8] {
     ]
 }
 
-fn put_number(out: &mut [u8], k: usize, n: u32)
-    requires { ⌜ k < 19 ⌝ }
-{
-    octets::put_u32(out, k * 4, n)
-}
-
 // Puts the numbers of the messages.
 fn put_messages(out: &mut [u8], sheet: Sheet) {
-    put_number(out, 2, sheet.request);
-    put_number(out, 3, sheet.response);
-    put_number(out, 4, sheet.endrequest);
-    put_number(out, 5, sheet.endresponse);
-    put_number(out, 6, sheet.txend);
-    put_number(out, 7, sheet.txendresponse);
-    put_number(out, 8, sheet.ack);
+    number::put_nth(out, 2, sheet.request);
+    number::put_nth(out, 3, sheet.response);
+    number::put_nth(out, 4, sheet.endrequest);
+    number::put_nth(out, 5, sheet.endresponse);
+    number::put_nth(out, 6, sheet.txend);
+    number::put_nth(out, 7, sheet.txendresponse);
+    number::put_nth(out, 8, sheet.ack);
 }
 
 fn put_ssrcs(out: &mut [u8], ssrcs: [u32; 8]) {
-    put_number(out, 11, ssrcs[0]);
-    put_number(out, 12, ssrcs[1]);
-    put_number(out, 13, ssrcs[2]);
-    put_number(out, 14, ssrcs[3]);
-    put_number(out, 15, ssrcs[4]);
-    put_number(out, 16, ssrcs[5]);
-    put_number(out, 17, ssrcs[6]);
-    put_number(out, 18, ssrcs[7]);
+    number::put_nth(out, 11, ssrcs[0]);
+    number::put_nth(out, 12, ssrcs[1]);
+    number::put_nth(out, 13, ssrcs[2]);
+    number::put_nth(out, 14, ssrcs[3]);
+    number::put_nth(out, 15, ssrcs[4]);
+    number::put_nth(out, 16, ssrcs[5]);
+    number::put_nth(out, 17, ssrcs[6]);
+    number::put_nth(out, 18, ssrcs[7]);
 }
 
 // Puts a sheet's numbers at the front of out.
 pub fn put_sheet(out: &mut [u8], sheet: Sheet) {
     let ssrcs = sheet.ssrcs;
-    put_number(out, 0, sheet.server);
-    put_number(out, 1, sheet.limit);
+    number::put_nth(out, 0, sheet.server);
+    number::put_nth(out, 1, sheet.limit);
     put_messages(out, sheet);
-    put_number(out, 9, sheet.resultid);
-    put_number(out, 10, sheet.seats);
+    number::put_nth(out, 9, sheet.resultid);
+    number::put_nth(out, 10, sheet.seats);
     put_ssrcs(out, ssrcs);
 }
 

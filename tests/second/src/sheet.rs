@@ -175,14 +175,10 @@ pub fn read(text: &[u8]) -> Reading {
 #[cfg(test)]
 mod tests {
     use super::*;
-
-    const S: &str =
-        "server=1000\nlimit=1\nrequest=1\nresponse=2\nendrequest=3\nendresponse=4\ntxend=5\ntxendresponse=6\n\
-        ack=7\nresultid=20\nseats=3\nseat=1,sip:a\nseat=2,sip:b\nseat=3,sip:c\n";
+    use crate::bench::{s_with, S};
 
     fn read_with(from: &str, to: &str) -> Reading {
-        assert!(S.contains(from));
-        read(S.replace(from, to).as_bytes())
+        read(s_with(from, to).as_bytes())
     }
 
     #[test]

@@ -13,7 +13,7 @@ fn but(sheet: &Sheet, change: impl FnOnce(&mut Sheet)) -> Sheet {
 }
 
 /// Values with another number in one place, at and about its bounds and those of a word.
-fn with_other_numbers(sheet: &Sheet) -> Vec<Sheet> {
+pub fn with_other_numbers(sheet: &Sheet) -> Vec<Sheet> {
     let mut values = vec![];
     for key in KEYS {
         let (least, greatest) = sheet::bounds(key);
@@ -31,7 +31,7 @@ fn with_other_numbers(sheet: &Sheet) -> Vec<Sheet> {
 }
 
 /// Values with another SSRC in one row, used or not.
-fn with_other_ssrcs(sheet: &Sheet) -> Vec<Sheet> {
+pub fn with_other_ssrcs(sheet: &Sheet) -> Vec<Sheet> {
     let mut values = vec![];
     for s in 0..SEATS {
         let mut ssrcs = sheet.ssrcs.to_vec();
@@ -71,17 +71,22 @@ pub fn systematic(random: &mut Random) -> Vec<Sheet> {
     values
 }
 
+/// The value spoilt in one place, or nearly so.
+pub fn spoilt(random: &mut Random, sheet: &Sheet) -> Sheet {
+    let others = match random.below(3) {
+        0 => with_other_numbers(sheet),
+        1 => with_other_ssrcs(sheet),
+        _ => with_other_users(sheet),
+    };
+    random.pick(&others).clone()
+}
+
 /// A good value, or one that is spoilt in one or two places.
 pub fn any(random: &mut Random) -> Sheet {
     let seats = random.below(SEATS) + 1;
     let mut sheet = good::sheet(random, seats);
     for _ in 0..random.below(3) {
-        let others = match random.below(3) {
-            0 => with_other_numbers(&sheet),
-            1 => with_other_ssrcs(&sheet),
-            _ => with_other_users(&sheet),
-        };
-        sheet = random.pick(&others).clone();
+        sheet = spoilt(random, &sheet);
     }
     sheet
 }

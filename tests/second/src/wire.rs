@@ -1,23 +1,47 @@
 //! Cases and their answers as octets, in the form that the program `answers` reads and writes (crates/answers/src/main.rt).
 
+use crate::packet::{self, Reading, Step};
 use crate::sheet::{self, Row, Sheet, KEYS, SEATS, WIDTH};
+use std::ops::Range;
+
+/// As many packets, and as many places, as the answer to one case has room for.
+const PACKETS: usize = 21;
+const PLACES: usize = 25;
+
+/// Stands for a number that a message has not.
+const NONE: u32 = u32::MAX;
 
 /// What is asked of the proved functions.
+#[derive(Clone)]
 pub enum Case {
     Read(Vec<u8>),
     Valid(Sheet),
     BySsrc(Sheet, u32),
     ByUser(Sheet, Vec<u8>),
     UserId(Vec<u8>),
+    Packets(Sheet, Vec<Vec<u8>>),
+    Fields(Vec<u8>, Vec<u64>),
 }
 
 /// The answer to a case.
 #[derive(PartialEq, Debug)]
-pub enum Answer {
+pub enum Answer<'a> {
     Read { sheet: Box<Sheet>, used: u64, refusal: u32, line: u32 },
     Valid { alone: bool, whole: bool },
     Seat(Option<usize>),
     UserId(bool),
+    Packets(Vec<Reading>),
+    Fields(Vec<Step<'a>>),
+}
+
+/// The cases that ask for all packets under a sheet.
+pub fn packet_cases(sheet: &Sheet, packets: &[Vec<u8>]) -> Vec<Case> {
+    packets.chunks(PACKETS).map(|some| Case::Packets(sheet.clone(), some.to_vec())).collect()
+}
+
+/// The cases that ask for all places in some octets.
+pub fn field_cases(octets: &[u8], places: &[u64]) -> Vec<Case> {
+    places.chunks(PLACES).map(|some| Case::Fields(octets.to_vec(), some.to_vec())).collect()
 }
 
 impl Case {
@@ -29,12 +53,31 @@ impl Case {
             Case::BySsrc(sheet, ssrc) => (3, [sheet_octets(sheet), ssrc.to_be_bytes().to_vec()].concat()),
             Case::ByUser(sheet, name) => (4, [sheet_octets(sheet), name.clone()].concat()),
             Case::UserId(name) => (5, name.clone()),
+            Case::Packets(sheet, packets) => {
+                (6, [numbers_octets(sheet), packets.iter().flat_map(|packet| counted(packet)).collect()].concat())
+            }
+            Case::Fields(octets, places) => {
+                (7, [counted(octets), places.iter().flat_map(|place| place.to_be_bytes()).collect()].concat())
+            }
         };
         [vec![asked], with_length(body)].concat()
     }
 
+    /// The case by its parts: one for each packet or place.
+    pub fn parts(&self) -> Vec<Case> {
+        match self {
+            Case::Packets(sheet, packets) => {
+                packets.iter().map(|packet| Case::Packets(sheet.clone(), vec![packet.clone()])).collect()
+            }
+            Case::Fields(octets, places) => {
+                places.iter().map(|place| Case::Fields(octets.clone(), vec![*place])).collect()
+            }
+            _ => vec![self.clone()],
+        }
+    }
+
     /// The answer that document 01 gives.
-    pub fn answer(&self) -> Answer {
+    pub fn answer(&self) -> Answer<'_> {
         match self {
             Case::Read(text) => match sheet::read(text) {
                 Ok((sheet, used)) => Answer::Read { sheet: Box::new(sheet), used: used as u64, refusal: 0, line: 0 },
@@ -44,14 +87,20 @@ impl Case {
             Case::BySsrc(sheet, ssrc) => Answer::Seat(sheet.seat_by_ssrc(*ssrc)),
             Case::ByUser(sheet, name) => Answer::Seat(sheet.seat_by_user(name)),
             Case::UserId(name) => Answer::UserId(sheet::is_user_id(name)),
+            Case::Packets(sheet, packets) => {
+                Answer::Packets(packets.iter().map(|packet| packet::read(sheet, packet)).collect())
+            }
+            Case::Fields(octets, places) => {
+                Answer::Fields(places.iter().map(|place| packet::field_at(octets, *place as usize)).collect())
+            }
         }
     }
 }
 
-impl Answer {
-    /// The answer as octets: a length, and that many octets.
-    pub fn octets(&self) -> Vec<u8> {
-        with_length(match self {
+impl Answer<'_> {
+    /// The answer as octets, without the length that stands before it.
+    pub fn body(&self) -> Vec<u8> {
+        match self {
             Answer::Read { sheet, used, refusal, line } => {
                 let mut octets = sheet_octets(sheet);
                 octets.extend(used.to_be_bytes());
@@ -63,7 +112,56 @@ impl Answer {
             Answer::Seat(Some(s)) => vec![1, *s as u8],
             Answer::Seat(None) => vec![0, 0],
             Answer::UserId(is) => vec![*is as u8],
-        })
+            Answer::Packets(readings) => {
+                readings.iter().flat_map(reading_numbers).flat_map(|number| number.to_be_bytes()).collect()
+            }
+            Answer::Fields(steps) => {
+                steps.iter().flat_map(step_numbers).flat_map(|number| number.to_be_bytes()).collect()
+            }
+        }
+    }
+
+    /// The answer as octets: a length, and that many octets.
+    pub fn octets(&self) -> Vec<u8> {
+        with_length(self.body())
+    }
+}
+
+/// A packet's answer: kind, SSRC, Ack asked, place and length of the User ID and of the named transmitter, Result, cause,
+/// Indicator, Source, Message Type; or 0, the refusal and its place.
+fn reading_numbers(reading: &Reading) -> [u32; 12] {
+    let message = match reading {
+        Ok(message) => message,
+        Err(refusal) => return [0, *refusal, 0, 0, 0, 0, 0, 0, 0, 0, 0, 0],
+    };
+    let place = |name: &Option<Range<usize>>| match name {
+        Some(name) => [name.start as u32, name.len() as u32],
+        None => [0, 0],
+    };
+    let ([user, user_length], [named, named_length]) = (place(&message.user), place(&message.named));
+    let number = |number: Option<u16>| number.map_or(NONE, u32::from);
+    [
+        message.kind,
+        message.ssrc,
+        u32::from(message.ack),
+        user,
+        user_length,
+        named,
+        named_length,
+        number(message.result),
+        number(message.cause),
+        number(message.indicator),
+        number(message.source),
+        message.about.map_or(NONE, u32::from),
+    ]
+}
+
+/// A field's answer: 1, its place, ID and length, and the next place; 2 at the end; or 3 and the refusal.
+fn step_numbers(step: &Step) -> [u64; 5] {
+    match step {
+        Ok(Some(field)) => [1, field.at as u64, u64::from(field.id), field.value.len() as u64, field.next as u64],
+        Ok(None) => [2, 0, 0, 0, 0],
+        Err(refusal) => [3, u64::from(*refusal), 0, 0, 0],
     }
 }
 
@@ -71,10 +169,18 @@ fn with_length(body: Vec<u8>) -> Vec<u8> {
     [(body.len() as u32).to_be_bytes().to_vec(), body].concat()
 }
 
+/// Octets behind their count, of two octets.
+fn counted(octets: &[u8]) -> Vec<u8> {
+    let count = u16::try_from(octets.len()).expect("a count of two octets");
+    [&count.to_be_bytes(), octets].concat()
+}
+
+fn numbers_octets(sheet: &Sheet) -> Vec<u8> {
+    sheet.numbers.iter().chain(&sheet.ssrcs).flat_map(|n| n.to_be_bytes()).collect()
+}
+
 fn sheet_octets(sheet: &Sheet) -> Vec<u8> {
-    let mut octets: Vec<u8> = sheet.numbers.iter().chain(&sheet.ssrcs).flat_map(|n| n.to_be_bytes()).collect();
-    octets.extend(sheet.users.concat());
-    octets
+    [numbers_octets(sheet), sheet.users.concat()].concat()
 }
 
 /// A number of four octets, taken off the front.
@@ -84,12 +190,13 @@ pub fn take_number(octets: &mut &[u8]) -> Option<u32> {
     Some(u32::from_be_bytes(*front))
 }
 
-/// The next record, with its length, taken off the front.
-pub fn take_record<'a>(octets: &mut &'a [u8]) -> Option<&'a [u8]> {
-    let length = take_number(&mut &octets[..])? as usize;
-    let (record, rest) = octets.split_at_checked(length.checked_add(4)?)?;
+/// The next answer, behind its length, taken off the front.
+pub fn take_answer<'a>(octets: &mut &'a [u8]) -> Option<&'a [u8]> {
+    let mut rest = *octets;
+    let length = take_number(&mut rest)? as usize;
+    let (body, rest) = rest.split_at_checked(length)?;
     *octets = rest;
-    Some(record)
+    Some(body)
 }
 
 fn take_sheet(octets: &mut &[u8]) -> Option<Sheet> {
@@ -125,16 +232,30 @@ pub fn shown_case(case: &Case) -> String {
         Case::BySsrc(sheet, ssrc) => format!("by_ssrc {ssrc} in {}", shown_sheet(sheet)),
         Case::ByUser(sheet, name) => format!("by_user \"{}\" in {}", name.escape_ascii(), shown_sheet(sheet)),
         Case::UserId(name) => format!("is_user_id \"{}\"", name.escape_ascii()),
+        Case::Packets(sheet, packets) => {
+            let packets: Vec<String> = packets.iter().map(|packet| hex(packet)).collect();
+            format!("packets {} under numbers {:?} ssrcs {:?}", packets.join(" "), sheet.numbers, sheet.ssrcs)
+        }
+        Case::Fields(octets, places) => format!("fields at {places:?} of {}", hex(octets)),
     }
 }
 
-/// A record for a person to read, as the answer to such a case.
-pub fn shown_record(case: &Case, record: &[u8]) -> String {
-    let body = record.get(4..).unwrap_or(&[]);
+fn hex(octets: &[u8]) -> String {
+    octets.iter().map(|octet| format!("{octet:02X}")).collect()
+}
+
+/// An answer's octets for a person to read, as the answer to such a case.
+pub fn shown_answer(case: &Case, body: &[u8]) -> String {
     match case {
         Case::Read(_) => shown_reading(body).unwrap_or(format!("{body:?}")),
+        Case::Packets(..) => format!("{:?}", body.chunks(4).map(number_of).collect::<Vec<u64>>()),
+        Case::Fields(..) => format!("{:?}", body.chunks(8).map(number_of).collect::<Vec<u64>>()),
         _ => format!("{body:?}"),
     }
+}
+
+fn number_of(octets: &[u8]) -> u64 {
+    octets.iter().fold(0, |number, octet| number << 8 | u64::from(*octet))
 }
 
 fn shown_reading(mut body: &[u8]) -> Option<String> {

@@ -1,0 +1,117 @@
+// What a packet reads to among the octets of an answer: twelve numbers of four octets. They are kind, SSRC, Ack asked; place and
+// length of the User ID and of the named transmitter, 0 and 0 where there is none; Result, cause, Indicator, Source and Message
+// Type, NONE where there is none. Of a refusal they are 0, its number, its place, and zeros.
+use super::number;
+use packet::Head;
+use packet::Indicator;
+use packet::Message;
+use packet::Name;
+use packet::Reading;
+use packet::Verdict;
+
+// How many octets that takes.
+pub const LENGTH: usize = 48;
+
+// Stands for a number that a message has not.
+const NONE: u32 = 4294967295;
+
+// Stands for a name that a message has not.
+const NOBODY: Name = Name { at: 0, len: 0 };
+
+fn given(indicator: Indicator) -> u32 {
+    match indicator {
+        Indicator::Absent => NONE,
+        Indicator::Given(n) => n as u32,
+    }
+}
+
+// Result, cause, Indicator, and no Source or Message Type.
+fn values(result: u32, cause: u32, indicator: Indicator) -> [u32; 5] {
+    [result, cause, given(indicator), NONE, NONE]
+}
+
+fn judged(verdict: Verdict, indicator: Indicator) -> [u32; 5] {
+    match verdict {
+        Verdict::Granted => values(1, NONE, indicator),
+        Verdict::Rejected(cause) => values(0, cause as u32, indicator),
+    }
+}
+
+fn asked(head: Head) -> u32 {
+    if head.ack { 1 } else { 0 }
+}
+
+// A message's numbers: its names, and behind them Result, cause, Indicator, Source and Message Type.
+fn row(kind: u32, head: Head, user: Name, named: Name, v: [u32; 5]) -> [u32; 12] {
+    [
+        kind,
+        head.ssrc,
+        asked(head),
+        user.at,
+        user.len,
+        named.at,
+        named.len,
+        v[0],
+        v[1],
+        v[2],
+        v[3],
+        v[4],
+    ]
+}
+
+// A message without a name.
+fn nameless(kind: u32, head: Head, v: [u32; 5]) -> [u32; 12] {
+    row(kind, head, NOBODY, NOBODY, v)
+}
+
+fn numbers_of(message: Message) -> [u32; 12] {
+    match message {
+        Message::ReceiveRequest {
+            head,
+            user,
+            source,
+            indicator,
+        } => row(1, head, user, source, values(NONE, NONE, indicator)),
+        Message::ReceiveResponse {
+            head,
+            verdict,
+            indicator,
+        } => nameless(2, head, judged(verdict, indicator)),
+        Message::EndRequest {
+            head,
+            transmitter: t,
+            indicator,
+        } => row(3, head, NOBODY, t, values(NONE, NONE, indicator)),
+        Message::EndResponse { head, transmitter } => row(4, head, NOBODY, transmitter, [NONE; 5]),
+        Message::TransmissionEnd {
+            head,
+            cause,
+            indicator,
+        } => nameless(5, head, values(NONE, cause as u32, indicator)),
+        Message::TransmissionEndResponse { head } => nameless(6, head, [NONE; 5]),
+        Message::Ack {
+            head,
+            source,
+            about,
+        } => nameless(7, head, [NONE, NONE, NONE, source as u32, about as u32]),
+    }
+}
+
+fn put_numbers(out: &mut [u8], numbers: [u32; 12]) {
+    let mut k = 0;
+    while k < 12 {
+        number::put_nth(out, k, numbers[k]);
+        k += 1;
+    }
+}
+
+// Puts what a packet reads to at the front of out.
+pub fn put_reading(out: &mut [u8], reading: Reading) {
+    match reading {
+        Reading::Read(message) => put_numbers(out, numbers_of(message)),
+        Reading::Refused(refusal) => put_numbers(
+            out,
+            [0, refusal.number, refusal.at, 0, 0, 0, 0, 0, 0, 0, 0, 0],
+        ),
+    }
+}

@@ -1,0 +1,27 @@
+// Numbers among the octets of a case or an answer, big-endian.
+ghost use Prim.Native.Nat.{_+_, _<_, _≤_};
+ghost use lib.ListN.{length};
+
+// Puts the k-th of some numbers of four octets.
+pub fn put_nth(out: &mut [u8], k: usize, n: u32)
+    requires { ⌜ k < 19 ⌝ }
+{
+    octets::put_u32(out, k * 4, n)
+}
+
+// The number of eight octets at a place.
+pub fn long_at(body: &[u8], at: usize) -> usize
+    requires { ⌜ at + 8 ≤ length (now body) ⌝ }
+{
+    let high = octets::u32_at(body, at) as usize;
+    let low = octets::u32_at(body, at + 4) as usize;
+    high * 4294967296 + low
+}
+
+// Puts a number of eight octets at a place.
+pub fn put_long(out: &mut [u8], at: usize, n: usize)
+    requires { ⌜ at < 1024 ⌝ }
+{
+    octets::put_u32(out, at, (n / 4294967296) as u32);
+    octets::put_u32(out, at + 4, (n % 4294967296) as u32);
+}
