@@ -23,6 +23,7 @@ pub enum Step {
     Refused(Refusal),
 }
 
+// Refusal 4.
 fn bad() -> Step
     ensures { λ r. ⌜ stepSaid r ≡ refused 4 0 ⌝ }
 {

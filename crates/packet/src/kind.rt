@@ -40,21 +40,28 @@ pub const SLOTS: usize = 3;
 
 pub type Slots = [Slot; SLOTS];
 
-// The letters, as one number.
+// The letters "MCV0", as one number.
 const MCV0: u32 = 0x4D435630;
 
+// The letters "MCV1".
 const MCV1: u32 = 0x4D435631;
 
+// The letters "MCV2".
 const MCV2: u32 = 0x4D435632;
 
+// "User ID (6)"; the Source ID of a receive media request has the same.
 const USER_ID: u32 = 6;
 
+// "Reject Cause (2)".
 const REJECT_CAUSE: u32 = 2;
 
+// "Source (10)".
 const SOURCE: u32 = 10;
 
+// "Message Type (12)".
 const MESSAGE_TYPE: u32 = 12;
 
+// "Indicator (13)".
 const INDICATOR: u32 = 13;
 
 // No field has this ID.
@@ -114,6 +121,7 @@ pub fn kind_of(n: Numbers, packet: &[u8]) -> u32
     0
 }
 
+// A slot with these parts.
 fn slot_for(id: u32, form: Form, must: bool) -> Slot
     ensures { λ r. ⌜ r ≡ record { id = id; form = form; must = must } ⌝ }
 {

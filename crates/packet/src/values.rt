@@ -23,6 +23,7 @@ fn name_at(packet: &[u8], at: usize) -> Name
     }
 }
 
+// The Indicator at a place, or none at 0.
 fn indicator_at(packet: &[u8], at: usize) -> Indicator
     requires { ⌜ at + 4 ≤ length (now packet) ⌝ }
     ensures { λ r. ⌜ indicatorSaid r ≡ indicatorFrom (now (packet .entry)) at ⌝ }
