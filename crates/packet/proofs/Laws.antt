@@ -1,13 +1,14 @@
 pub mod Sized
 pub mod Walk
+pub mod Fields
 pub mod Step
 pub mod Layouts
 pub mod Kinds
 pub mod Judging
+pub mod Sound
 pub mod Allowed
 pub mod Accepts
 pub mod NamesInside
-pub mod Sound
 pub mod Unused
 pub mod Values
 pub mod Slots

@@ -38,14 +38,15 @@ grants-none (r ∷ rows) (v ∷ values) t =
     (grants-none rows values (T-and-right (not (isResult (r .form))) (noResult rows) t))
 
 -- the first Result decides: it is 1 exactly if the message's is
-result-decides : (p : List ℕ) (fs : List Field) (id : ℕ) (rows : List Row) → T (noResult rows) → (g : Bool) (values : List Held)
-    → Allowed p fs (row id Result always ∷ rows) g values → granted p id fs ≡ grants (row id Result always ∷ rows) values
+result-decides : (p : List ℕ) (id : ℕ) (rows : List Row) → T (noResult rows) → (g : Bool) (values : List Held)
+    → Allowed p (row id Result always ∷ rows) g values → granted p id (fieldsOf p) ≡ grants (row id Result always ∷ rows) values
 unfolding granted grantIn grants isResult isOne mayLack fits heldIn
-result-decides p fs id rows t g values a =
+result-decides p id rows t g values a =
+    let fs = fieldsOf p in
     by-first (a .0) values (a .1) (arranged-used (row id Result always ∷ rows) fs (present (a .0)) (a .2) id (T-or-left (eqb id id) (uses id rows) (eqb-refl id)))
   where
     by-first : (os : List (Option Field)) (vs : List Held) → AllowsAll p g (row id Result always ∷ rows) os vs
-        → fieldsWith id fs ≡ fieldsWith id (present os) → granted p id fs ≡ grants (row id Result always ∷ rows) vs
+        → fieldsWith id (fieldsOf p) ≡ fieldsWith id (present os) → granted p id (fieldsOf p) ≡ grants (row id Result always ∷ rows) vs
     by-first [] vs x e = absurd x
     by-first (o ∷ os) [] x e = absurd x
     by-first (none ∷ os) (v ∷ vs) x e = absurd (x .0 .0)
@@ -74,7 +75,7 @@ kindAmong-all P p k (c ∷ ks) h e =
 abbrev KindRight : Numbers → List ℕ → Kind → Type 0
 KindRight n p k =
     T (orderly (k .rows))
-    × ((g : Bool) (values : List Held) → Allowed p (fieldsOf p) (k .rows) g values → slotsIn n p k ≡ slotsOf (grants (k .rows) values) k)
+    × ((g : Bool) (values : List Held) → Allowed p (k .rows) g values → slotsIn n p k ≡ slotsOf (grants (k .rows) values) k)
 
 -- only the slots of kind 2 depend on it
 kinds-right : (n : Numbers) (p : List ℕ) → All (KindRight n p) (kinds n)
@@ -85,7 +86,7 @@ kinds-right n p = (
     (
       tt,
       λ g values a. ap (λ (b : Bool). map (settled b) (row (n .resultid) Result always ∷ row 2 Cause unlessGranted ∷ indicator ∷ []))
-          (result-decides p (fieldsOf p) (n .resultid) (row 2 Cause unlessGranted ∷ indicator ∷ []) (unfold isResult in tt) g values a),
+          (result-decides p (n .resultid) (row 2 Cause unlessGranted ∷ indicator ∷ []) (unfold isResult in tt) g values a),
     ),
     (
       (tt, λ g values a. refl),
@@ -133,9 +134,9 @@ accepts-exactly n p k values h e w =
       λ r.
           let judged = messageOf-reads p (k .kind) slots (faultOf p slots fs) (k .kind) (ssrcIn p) (ackAsked p) values (sym is ∙ r) in
           let first = granted p (n .resultid) fs in
-          let settles = same .1 first values (judged-allowed p fs (k .rows) first values judged) in
-          judged-allowed p fs (k .rows) grant values (subst (λ (l : List Slot). Judged p fs l values) settles judged),
+          let settles = same .1 first values (judged-allowed p (k .rows) first values judged) in
+          judged-allowed p (k .rows) grant values (subst (λ (l : List Slot). Judged p l values) settles judged),
       λ a.
-          let judged = subst (λ (l : List Slot). Judged p fs l values) (sym (same .1 grant values a)) (allowed-judged p fs (k .rows) grant values (same .0) a) in
+          let judged = subst (λ (l : List Slot). Judged p l values) (sym (same .1 grant values a)) (allowed-judged p (k .rows) grant values (same .0) a) in
           is ∙ rw (judged .0, judged .1),
     )

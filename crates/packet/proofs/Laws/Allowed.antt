@@ -16,10 +16,12 @@ use Rattle.octets.proofs.Keep.{keep-keep}
 use Rattle.packet.specs.declared.field.Field.{Field}
 use Rattle.packet.specs.declared.kind.Form.the-variants.{Barred}
 use Rattle.packet.specs.declared.kind.Slot.{Slot}
+use Rattle.packet.specs.Walk.{fieldsOf}
 use Rattle.packet.specs.Kind.{Need, always, maybe, unlessGranted, Row, row, settled}
-use Rattle.packet.specs.Judge.{Held, fits, heldIn, fieldsWith, slotsWith, Filled, filledBehind, filledIn, isAbsent, lacking, faultOf, heldBy}
+use Rattle.packet.specs.Judge.{Held, fits, fieldsWith, slotsWith, Filled, filledBehind, filledIn, isAbsent, lacking, faultOf, heldBy}
 use Rattle.packet.specs.Claims.{useful, Arranged, present, mayLack, mayHave, Allows, AllowsAll}
-use Rattle.packet.proofs.Laws.Judging.{fitting, fitting-length, slotsWith-own, slotsWith-other, inUse, slotsWith-none, faultOf-none, leftFor, every-leftFor, leftFor-snoc, filledBehind-cons, fitting-next}
+use Rattle.packet.proofs.Laws.Sound.{Sound, AllSound, fault-sound}
+use Rattle.packet.proofs.Laws.Judging.{fitting, fitting-length, slotsWith-own, slotsWith-other, inUse, slotsWith-none, faultOf-none, leftFor, every-leftFor, leftFor-snoc, filledBehind-cons}
 
 -- ---- a row and its slot
 
@@ -170,17 +172,6 @@ module _ (p : List ℕ) (grant : Bool) where
     full : lacking (filled r o) ≡ false
     held : heldBy p (filled r o) ≡ v
 
-  -- what fills the slot the row allows
-  fills-allows : (r : Row) (o : Option Field) (v : Held) → Fills r o v → Allows p grant r o v
-  unfolding heldBy
-  fills-allows r none v x =
-      (true-T (mayLack grant (r .need)) (not-false (mayLack grant (r .need)) (sym (lacking-none r) ∙ x .full)), sym (x .held))
-  fills-allows r (some f) v x =
-      let both : T (mayHave grant (r .need) && fits (r .form) p f) = rw (settled-fits grant r p f) at (x .fit) in
-      let may = T-and-left (mayHave grant (r .need)) (fits (r .form) p f) both in
-      let held : heldIn (pick (mayHave grant (r .need)) (r .form) Barred) p f ≡ v = rw (settled-is grant r) at (x .held) in
-      (may, eqb→eq (f .id) (r .id) (x .own), T-and-right (mayHave grant (r .need)) (fits (r .form) p f) both, sym (rw (T-true (mayHave grant (r .need)) may) at held))
-
   -- what the row allows fills the slot
   allows-fills : (r : Row) (o : Option Field) (v : Held) → Allows p grant r o v → Fills r o v
   unfolding lacking isAbsent heldBy
@@ -194,12 +185,7 @@ module _ (p : List ℕ) (grant : Bool) where
         held = rw (settled-is grant r, T-true (mayHave grant (r .need)) (a .0)) (sym (a .3));
       }
 
-  -- the first of the fields left fits the first slot
-  fitting-first : (r : Row) (behind : List Slot) (xs : List Field) → T (fitting p (settled grant r ∷ behind) xs) → T (fitsIn r (getElem? xs 0))
-  fitting-first r behind [] t = tt
-  fitting-first r behind (f ∷ xs) t = T-and-left (fits (settled grant r .form) p f) (fitting p behind xs) t
-
-  -- .. and the others fit the others, so all fit
+  -- the first of the fields left fits the first slot, and the others fit the others, so all fit
   fitting-cons : (r : Row) (behind : List Slot) (xs : List Field) → T (fitsIn r (getElem? xs 0)) → T (fitting p behind (drop 1 xs)) → T (fitting p (settled grant r ∷ behind) xs)
   fitting-cons r behind [] t u = tt
   fitting-cons r behind (f ∷ xs) t u = T-and (fits (settled grant r .form) p f) (fitting p behind xs) t u
@@ -214,30 +200,28 @@ module _ (p : List ℕ) (grant : Bool) where
       filledBehind-cons earlier (settled grant r) (slots rows) fs
       ∙ ap (λ (id : ℕ). filled r (getElem? (leftFor id earlier fs) 0) ∷ filledRows fs (earlier ++ (settled grant r ∷ [])) rows) (settled-id grant r)
 
-  -- the fields left fit the rows' slots and fill those that must be: the rows allow them
-  filled-allowed : (fs : List Field) (rows : List Row) (earlier : List Slot)
-      → ((id : ℕ) → T (uses id rows) → T (fitting p (slotsWith id (slots rows)) (leftFor id earlier fs)))
-      → some-of lacking (filledRows fs earlier rows) ≡ false
-      → AllowsAll p grant rows (fillers (filledRows fs earlier rows)) (map (heldBy p) (filledRows fs earlier rows))
-  filled-allowed fs [] earlier h e = unfold filledBehind in tt
-  filled-allowed fs (r ∷ rows) earlier h e =
-      let more = earlier ++ (settled grant r ∷ []) in
-      let xs = leftFor (r .id) earlier fs in
-      let own : T (eqb (settled grant r .id) (r .id)) = rw (settled-id grant r) (eqb-refl (r .id)) in
-      let fit = rw (slotsWith-own (r .id) (settled grant r) (slots rows) own) at (h (r .id) (T-or-left (eqb (r .id) (r .id)) (uses (r .id) rows) (eqb-refl (r .id)))) in
-      let none-lacks = or-false-both (lacking (filled r (getElem? xs 0))) (some-of lacking (filledRows fs more rows)) (rw (filled-cons earlier r rows fs) at e) in
-      rw (filled-cons earlier r rows fs) (
-        fills-allows r (getElem? xs 0) (heldBy p (filled r (getElem? xs 0)))
-            (record {
-              own = first-hasId (r .id) xs (every-leftFor (r .id) earlier fs);
-              fit = fitting-first r (slotsWith (r .id) (slots rows)) xs fit;
-              full = none-lacks .0;
-              held = refl;
-            }),
-        filled-allowed fs rows more
-            (λ id u. fitting-next p id earlier (settled grant r) (slots rows) fs (h id (T-or-right (eqb (r .id) id) (uses id rows) u)))
-            (none-lacks .1),
+  -- what fills a slot soundly its row allows
+  sound-allows : (r : Row) (o : Option Field) → Sound p (settled grant r) o → Allows p grant r o (heldBy p (filled r o))
+  unfolding heldBy
+  sound-allows r none t =
+      (true-T (mayLack grant (r .need)) (not-false (mayLack grant (r .need)) (sym (ap (λ (s : Slot). s .must) (settled-is grant r)) ∙ t)), refl)
+  sound-allows r (some f) t =
+      let both : T (mayHave grant (r .need) && fits (r .form) p f) = rw (settled-fits grant r p f) at (t .1) in
+      let may = T-and-left (mayHave grant (r .need)) (fits (r .form) p f) both in (
+        may,
+        eqb→eq (f .id) (settled grant r .id) (t .2) ∙ settled-id grant r,
+        T-and-right (mayHave grant (r .need)) (fits (r .form) p f) both,
+        rw (settled-is grant r, T-true (mayHave grant (r .need)) may),
       )
+
+  -- slots that are filled soundly their rows allow
+  sound-allowed : (fs : List Field) (rows : List Row) (earlier : List Slot) → AllSound p (filledRows fs earlier rows)
+      → AllowsAll p grant rows (fillers (filledRows fs earlier rows)) (map (heldBy p) (filledRows fs earlier rows))
+  unfolding filledBehind
+  sound-allowed fs [] earlier a = tt
+  sound-allowed fs (r ∷ rows) earlier a =
+      let s = settled grant r in
+      (sound-allows r (getElem? (fieldsWith (s .id) fs) (length (slotsWith (s .id) earlier))) (a .0), sound-allowed fs rows (earlier ++ (s ∷ [])) (a .1))
 
   -- ---- what is allowed judging accepts
 
@@ -344,11 +328,15 @@ module _ (p : List ℕ) (grant : Bool) where
 
 -- ---- judging
 
--- no field is at fault or missing, and the message holds these values
-abbrev pub Judged : List ℕ → List Field → List Slot → List Held → Type 0
-Judged p fs slots values = (faultOf p slots fs ≡ none) × (map (heldBy p) (filledIn slots fs) ≡ values)
+-- no field of the packet is at fault or missing, and the message holds these values
+abbrev pub Judged : List ℕ → List Slot → List Held → Type 0
+Judged p slots values = (faultOf p slots (fieldsOf p) ≡ none) × (map (heldBy p) (filledIn slots (fieldsOf p)) ≡ values)
 
-module _ (p : List ℕ) (fs : List Field) (rows : List Row) (grant : Bool) (values : List Held) where
+module _ (p : List ℕ) (rows : List Row) (grant : Bool) (values : List Held) where
+  -- the fields of the packet
+  abbrev fs : List Field
+  fs = fieldsOf p
+
   -- fields that fit the slots with their ID are no more than they
   useful-taken : (id : ℕ) → (T (uses id rows) → T (fitting p (slotsWith id (map (settled grant) rows)) (fieldsWith id fs)))
       → fieldsWith id (useful rows fs) ≡ take (length (slotsWith id (map (settled grant) rows))) (fieldsWith id fs)
@@ -364,18 +352,18 @@ module _ (p : List ℕ) (fs : List Field) (rows : List Row) (grant : Bool) (valu
   Allowed = (chosen : List (Option Field)) × AllowsAll p grant rows chosen values × Arranged (useful rows fs) (present chosen)
 
   -- what judging accepts is allowed
-  pub judged-allowed : Judged p fs (map (settled grant) rows) values → Allowed
+  pub judged-allowed : Judged p (map (settled grant) rows) values → Allowed
   unfolding slotsWith filledIn
   judged-allowed j =
       let slots = map (settled grant) rows in
       let right = faultOf-none p slots fs .0 (j .0) in (
         fillers (filledBehind [] slots fs),
-        rw (j .1) at (filled-allowed p grant fs rows [] (λ id u. right .0 id (rw (inUse-settled grant id rows) u)) (right .1)),
+        rw (j .1) at (sound-allowed p grant fs rows [] (fault-sound p slots (j .0))),
         λ id. useful-taken id (λ u. right .0 id (rw (inUse-settled grant id rows) u)) ∙ sym (present-filled id [] slots fs),
       )
 
   -- what is allowed judging accepts, where the rows are in order
-  pub allowed-judged : T (orderly rows) → Allowed → Judged p fs (map (settled grant) rows) values
+  pub allowed-judged : T (orderly rows) → Allowed → Judged p (map (settled grant) rows) values
   unfolding slotsWith filledIn
   allowed-judged t a =
       let same = arranged-used rows fs (present (a .0)) (a .2) in

@@ -1,16 +1,16 @@
 -- Laws of judging a packet's fields in their order: what is known at each place of a walk that goes to the end. Assumes nothing.
-use mathlib.Core.Path.{_≡_, refl, sym, _∙_}
+use mathlib.Core.Path.{_≡_, refl, sym, _∙_, subst}
 use mathlib.Core.Bool.{true, false, _&&_}
 use mathlib.Core.List.{List, [], _∷_, _++_, append-nil, append-assoc}
 use mathlib.Core.Option.{none, some}
 use Prim.Native.Nat.{ℕ, zero, suc, _+_, _≤_, _<_}
 use native.Mathlib.Omega.{arith}
 use lib.ListN.{length, getD, set, replicate}
-use lib.Dec.{T, leb, ltb, eqb, le→leb, lt→ltb}
+use lib.Dec.{T, eqb}
 use borrow.Author.Tests.{eq-eqb, ne-eqb}
 use Rattle.octets.specs.Choice.{pick, every}
 use Rattle.octets.specs.Big.{bigAt}
-use Rattle.octets.proofs.Choice.{T-and, every-append}
+use Rattle.octets.proofs.Choice.{T-and-left, every-append}
 use Rattle.packet.specs.declared.field.Field.{Field}
 use Rattle.packet.specs.declared.kind.Slot.{Slot}
 use Rattle.packet.specs.declared.judge.Use.the-variants.{Fills, Repeats, Skipped}
@@ -18,9 +18,10 @@ use Rattle.packet.specs.Header.{firstField}
 use Rattle.packet.specs.Walk.{nextAt, fieldRight, fieldAt, fieldsFrom, stopFrom, fieldsOf}
 use Rattle.packet.specs.Judge.{fits, numberAt, fieldsWith, grantIn, granted, atFault, faultAmong, missingAt, firstOf, faultOf}
 use Rattle.packet.specs.Inner.{Walked, JudgedIs, placesIn, PlacesInside, placed, openIn, lackIn}
-use Rattle.packet.proofs.Laws.Walk.{right-inside, next-after, right-end, fieldsFrom-right, fieldsFrom-wrong, stopFrom-right, stopFrom-whole}
+use Rattle.packet.proofs.Laws.Walk.{next-after, right-end, fieldsFrom-right, fieldsFrom-wrong, stopFrom-right, stopFrom-whole}
+use Rattle.packet.proofs.Laws.Fields.{coded, every-coded}
 use Rattle.packet.proofs.Laws.Slots.{blank}
-use Rattle.packet.proofs.Laws.Places.{standing, places-none, inside-places, lackIn-places, useIn, fills-inside, fills-fault, fills-places, repeats-fault, skipped-fault, skipped-places}
+use Rattle.packet.proofs.Laws.Places.{places-none, inside-places, lackIn-places, useIn, fills-inside, fills-fault, fills-places, repeats-fault, skipped-fault, skipped-places}
 
 -- ---- the first Result among the fields from a place on
 
@@ -46,7 +47,6 @@ module _ (p : List ℕ) (at id : ℕ) where
 -- none of them is at fault, and these are their places
 pub record Judging (p : List ℕ) (slots : List Slot) (places : List ℕ) (at : ℕ) : Type 0 where
   pub before : List Field
-  pub stands : T (every (standing p) before)
   pub theirs : places ≡ placesIn slots before
   pub judged : faultAmong p slots [] (fieldsOf p) ≡ faultAmong p slots before (fieldsFrom p at)
   pub all : before ++ fieldsFrom p at ≡ fieldsOf p
@@ -59,7 +59,6 @@ unfolding fieldsOf
 judging-first p slots w =
     record {
       before = [];
-      stands = tt;
       theirs = sym (places-none slots);
       judged = refl;
       all = refl;
@@ -73,9 +72,15 @@ placed-some zero h = absurd (omega arith)
 placed-some (suc n) h = refl
 
 module _ {p : List ℕ} {slots : List Slot} {places : List ℕ} {at : ℕ} (j : Judging p slots places at) where
+  -- they are fields of the packet
+  judging-coded : T (every (coded p) (j .before))
+  judging-coded =
+      T-and-left (every (coded p) (j .before)) (every (coded p) (fieldsFrom p at))
+      (rw every-append at (subst (λ (fs : List Field). T (every (coded p) fs)) (sym (j .all)) (every-coded p)))
+
   -- the places are in the packet
   judging-inside : 12 ≤ length p → PlacesInside p places
-  judging-inside h = rw (j .theirs) (inside-places p (j .before) (j .stands) (omega arith) slots)
+  judging-inside h = rw (j .theirs) (inside-places p (j .before) judging-coded (omega arith) slots)
 
   module _ (h : at < length p) where
     -- there is a field at the place
@@ -86,14 +91,6 @@ module _ {p : List ℕ} {slots : List Slot} {places : List ℕ} {at : ℕ} (j : 
     judging-fields : fieldsFrom p at ≡ fieldAt p at ∷ fieldsFrom p (nextAt p at)
     judging-fields = fieldsFrom-right p at judging-right
 
-    -- it stands in the packet, and not at 0
-    judging-standing : T (standing p (fieldAt p at))
-    unfolding fieldAt
-    judging-standing =
-        T-and (ltb 0 at) (leb (at + 4) (length p))
-        (lt→ltb 0 at (omega (arith, j .least)))
-        (le→leb (at + 4) (length p) (right-inside p at judging-right .0))
-
     -- it is not at fault: all before the next are judged
     judging-next : (places′ : List ℕ) → atFault p slots (j .before) (fieldAt p at) ≡ false → placesIn slots (j .before ++ (fieldAt p at ∷ [])) ≡ places′
         → Judging p slots places′ (nextAt p at)
@@ -101,8 +98,6 @@ module _ {p : List ℕ} {slots : List Slot} {places : List ℕ} {at : ℕ} (j : 
     judging-next places′ e q =
         record {
           before = j .before ++ (fieldAt p at ∷ []);
-          stands = rw (every-append (standing p) (j .before) (fieldAt p at ∷ []))
-              (T-and (every (standing p) (j .before)) (every (standing p) (fieldAt p at ∷ [])) (j .stands) (T-and (standing p (fieldAt p at)) true judging-standing tt));
           theirs = sym q;
           judged = j .judged ∙ rw (judging-fields, e);
           all = append-assoc (j .before) (fieldAt p at ∷ []) (fieldsFrom p (nextAt p at)) ∙ rw (← judging-fields) (j .all);
@@ -128,29 +123,29 @@ module _ {p : List ℕ} {slots : List Slot} {places : List ℕ} {at : ℕ} (j : 
     module _ (i : ℕ) (e : openIn slots places (getD p at 0) ≡ Fills i) where
       -- it fills a slot that there is
       pub judging-slot : i < length slots
-      judging-slot = fills-inside p slots (j .before) (fieldAt p at) (j .stands) i (judging-use ∙ e)
+      judging-slot = fills-inside p slots (j .before) (fieldAt p at) judging-coded i (judging-use ∙ e)
 
       -- and has its form
       pub judging-fills : fits (getD slots i blank .form) p (fieldAt p at) ≡ true → Judging p slots (set places i at) (nextAt p at)
       judging-fills q =
           judging-next (set places i at)
-          (fills-fault p slots (j .before) (fieldAt p at) (j .stands) i (judging-use ∙ e) ∙ rw q)
-          (fills-places p slots (j .before) (fieldAt p at) (j .stands) i (judging-use ∙ e) ∙ unfold fieldAt in rw (j .theirs))
+          (fills-fault p slots (j .before) (fieldAt p at) judging-coded i (judging-use ∙ e) ∙ rw q)
+          (fills-places p slots (j .before) (fieldAt p at) judging-coded i (judging-use ∙ e) ∙ unfold fieldAt in rw (j .theirs))
 
       -- and does not have it
       pub judged-wrong : fits (getD slots i blank .form) p (fieldAt p at) ≡ false → JudgedIs p slots (record { fault = at; places = places })
-      judged-wrong q = judged-fault (fills-fault p slots (j .before) (fieldAt p at) (j .stands) i (judging-use ∙ e) ∙ rw q)
+      judged-wrong q = judged-fault (fills-fault p slots (j .before) (fieldAt p at) judging-coded i (judging-use ∙ e) ∙ rw q)
 
     -- it is a repeat
     pub judged-repeat : openIn slots places (getD p at 0) ≡ Repeats → JudgedIs p slots (record { fault = at; places = places })
-    judged-repeat e = judged-fault (repeats-fault p slots (j .before) (fieldAt p at) (j .stands) (judging-use ∙ e))
+    judged-repeat e = judged-fault (repeats-fault p slots (j .before) (fieldAt p at) judging-coded (judging-use ∙ e))
 
     -- the message has no use for it
     pub judging-skips : openIn slots places (getD p at 0) ≡ Skipped → Judging p slots places (nextAt p at)
     judging-skips e =
         judging-next places
-        (skipped-fault p slots (j .before) (fieldAt p at) (j .stands) (judging-use ∙ e))
-        (skipped-places p slots (j .before) (fieldAt p at) (j .stands) (judging-use ∙ e) ∙ sym (j .theirs))
+        (skipped-fault p slots (j .before) (fieldAt p at) judging-coded (judging-use ∙ e))
+        (skipped-places p slots (j .before) (fieldAt p at) judging-coded (judging-use ∙ e) ∙ sym (j .theirs))
 
   module _ (h : length p ≤ at) (l : firstField ≤ length p) where
     -- the end is reached: all fields are judged
@@ -161,7 +156,7 @@ module _ {p : List ℕ} {slots : List Slot} {places : List ℕ} {at : ℕ} (j : 
     judging-end : faultOf p slots (fieldsOf p) ≡ pick (lackIn slots places) (some (length p)) none
     unfolding faultOf firstOf faultAmong missingAt
     judging-end =
-        rw (j .judged, fieldsFrom-wrong p at (right-end p at h), ← judging-all, j .theirs, lackIn-places p (j .before) (j .stands) slots)
+        rw (j .judged, fieldsFrom-wrong p at (right-end p at h), ← judging-all, j .theirs, lackIn-places p (j .before) judging-coded slots)
 
     -- one is
     pub judged-lacking : lackIn slots places ≡ true → JudgedIs p slots (record { fault = length p; places = places })

@@ -19,19 +19,6 @@ use Rattle.packet.specs.Judge.{fits, fieldsWith, slotsWith, formFor, atF
 
 -- ---- fields and slots with an ID
 
--- a test that holds of each field with each ID holds of each field
-pub fieldsWith-every : (q : Field → Bool) (fs : List Field) → ((id : ℕ) → T (every q (fieldsWith id fs))) → T (every q fs)
-unfolding fieldsWith
-fieldsWith-every q [] h = tt
-fieldsWith-every q (f ∷ fs) h =
-    let own = rw (T-true (eqb (f .id) (f .id)) (eqb-refl (f .id))) at (h (f .id)) in
-    T-and (q f) (every q fs) (T-and-left (q f) (every q (fieldsWith (f .id) fs)) own)
-    (fieldsWith-every q fs
-    (λ id. pick-cases (λ l. T (every q l) → T (every q (fieldsWith id fs))) (eqb (f .id) id) (f ∷ fieldsWith id fs) (fieldsWith id fs)
-    (λ u t. T-and-right (q f) (every q (fieldsWith id fs)) t)
-    (λ e t. t)
-    (h id)))
-
 -- a slot with the ID goes before those behind it
 pub slotsWith-own : (id : ℕ) (s : Slot) (slots : List Slot) → T (eqb (s .id) id) → slotsWith id (s ∷ slots) ≡ s ∷ slotsWith id slots
 unfolding slotsWith

@@ -2,7 +2,7 @@
 -- is the one that the field fills next, and tells whether it is at fault. Assumes nothing.
 use mathlib.Core.Path.{_≡_, refl, sym, ap, _∙_}
 use mathlib.Core.Logic.{⊎-elim}
-use mathlib.Core.Bool.{Bool, true, false, not, _&&_}
+use mathlib.Core.Bool.{Bool, true, false, not}
 use mathlib.Core.List.{List, [], _∷_, _++_, map}
 use mathlib.Core.Option.{Option, none, some}
 use Prim.Native.Nat.{ℕ, zero, suc, _+_, _≤_, _<_, zero-le, suc-le-suc}
@@ -10,7 +10,7 @@ use native.Mathlib.Nat.{zero-add}
 use native.Mathlib.Numerals.{add-one}
 use native.Mathlib.Omega.{arith}
 use lib.ListN.{length, getD, set, replicate, getElem?, length-append}
-use lib.Dec.{T, leb, ltb, eqb, eqb-refl, leb·zero, leb·suc-zero, leb·suc-suc, ltb→lt, le→leb}
+use lib.Dec.{T, leb, eqb, eqb-refl, leb·zero, leb·suc-zero, leb·suc-suc, le→leb}
 use borrow.Author.Tests.{eqb-true, ne-eqb, le-leb, lt-leb}
 use Rattle.octets.specs.Choice.{pick, every, some-of}
 use Rattle.octets.proofs.Choice.{T-true, decide, T-and, T-and-left, T-and-right}
@@ -25,6 +25,7 @@ use Rattle.packet.specs.declared.judge.Use.{Use}
 use Rattle.packet.specs.declared.judge.Use.the-variants.{Fills, Repeats, Skipped}
 use Rattle.packet.specs.Judge.{fits, fieldsWith, slotsWith, formFor, atFault, Filled, filledBehind, filledIn, isAbsent, lacking}
 use Rattle.packet.specs.Inner.{placeOf, placesIn, PlacesInside, openIn, lackIn, later, again}
+use Rattle.packet.proofs.Laws.Fields.{coded, coded-says}
 use Rattle.packet.proofs.Laws.Judging.{inUse, slotsWith-none}
 use Rattle.packet.proofs.Laws.Slots.{blank}
 
@@ -82,10 +83,7 @@ isAbsent-getElem? [] k = sym (leb·zero k)
 isAbsent-getElem? (f ∷ fs) zero = sym (leb·suc-zero (length fs))
 isAbsent-getElem? (f ∷ fs) (suc k) = isAbsent-getElem? fs k ∙ sym (leb·suc-suc (length fs) k)
 
--- ---- fields that stand in the packet, and not at 0
-
-abbrev pub standing : List ℕ → Field → Bool
-standing p f = ltb 0 (f .at) && leb (f .at + 4) (length p)
+-- ---- the places of fields in the packet
 
 -- no field, or one of which a test holds
 abbrev if-some : (Field → Bool) → Option Field → Bool
@@ -100,29 +98,27 @@ if-some-getElem? q (f ∷ fs) (suc k) t = if-some-getElem? q fs k (T-and-right (
 
 module _ (p : List ℕ) where
   -- no place is no field
-  absent-place : (o : Option Field) → T (if-some (standing p) o) → eqb (placeOf o) 0 ≡ isAbsent o
+  absent-place : (o : Option Field) → T (if-some (coded p) o) → eqb (placeOf o) 0 ≡ isAbsent o
   unfolding isAbsent
   absent-place none t = refl
-  absent-place (some f) t =
-      let above = ltb→lt 0 (f .at) (T-and-left (ltb 0 (f .at)) (leb (f .at + 4) (length p)) t) in
-      ne-eqb (f .at) 0 (λ e. omega arith)
+  absent-place (some f) t = ne-eqb (f .at) 0 (λ e. omega (arith, coded-says p f t .above))
 
   -- four octets stand at the place
-  inside-place : 4 ≤ length p → (o : Option Field) → T (if-some (standing p) o) → T (leb (placeOf o + 4) (length p))
+  inside-place : 4 ≤ length p → (o : Option Field) → T (if-some (coded p) o) → T (leb (placeOf o + 4) (length p))
   inside-place h none t = le→leb 4 (length p) h
-  inside-place h (some f) t = T-and-right (ltb 0 (f .at)) (leb (f .at + 4) (length p)) t
+  inside-place h (some f) t = coded-says p f t .word
 
-  module _ (fs : List Field) (t : T (every (standing p) fs)) where
-    -- the field in a slot stands there
-    standing-by : (id k : ℕ) → T (if-some (standing p) (getElem? (fieldsWith id fs) k))
+  module _ (fs : List Field) (t : T (every (coded p) fs)) where
+    -- the field in a slot is one of them
+    coded-by : (id k : ℕ) → T (if-some (coded p) (getElem? (fieldsWith id fs) k))
     unfolding fieldsWith
-    standing-by id k =
-        if-some-getElem? (standing p) (fieldsWith id fs) k (every-kept (λ (f : Field). eqb (f .id) id) (standing p) fs t)
+    coded-by id k =
+        if-some-getElem? (coded p) (fieldsWith id fs) k (every-kept (λ (f : Field). eqb (f .id) id) (coded p) fs t)
 
     -- a slot is open exactly if no field fills it
     place-absent : (earlier : List Slot) (s : Slot) → eqb (place earlier s fs) 0 ≡ isAbsent (getElem? (fieldsWith (s .id) fs) (slotCount (s .id) earlier))
     place-absent earlier s =
-        absent-place (getElem? (fieldsWith (s .id) fs) (slotCount (s .id) earlier)) (standing-by (s .id) (slotCount (s .id) earlier))
+        absent-place (getElem? (fieldsWith (s .id) fs) (slotCount (s .id) earlier)) (coded-by (s .id) (slotCount (s .id) earlier))
 
     -- that is, if no more fields have its ID than slots before it
     place-open : (earlier : List Slot) (s : Slot) (id : ℕ) → s .id ≡ id → eqb (place earlier s fs) 0 ≡ leb (fieldCount id fs) (slotCount id earlier)
@@ -146,7 +142,7 @@ module _ (p : List ℕ) where
     inside-behind h earlier [] = tt
     inside-behind h earlier (s ∷ slots) =
         T-and (leb (place earlier s fs + 4) (length p)) (every (λ (a : ℕ). leb (a + 4) (length p)) (placesBehind (earlier ++ (s ∷ [])) slots fs))
-        (inside-place h (getElem? (fieldsWith (s .id) fs) (slotCount (s .id) earlier)) (standing-by (s .id) (slotCount (s .id) earlier)))
+        (inside-place h (getElem? (fieldsWith (s .id) fs) (slotCount (s .id) earlier)) (coded-by (s .id) (slotCount (s .id) earlier)))
         (inside-behind h (earlier ++ (s ∷ [])) slots)
 
     -- four octets stand at each place
@@ -275,7 +271,7 @@ module _ (fs : List Field) (f : Field) where
     means-later m Repeats e h = record { used = rw e (h .used); form = rw e (h .form) }
     means-later m Skipped e h = record { unused = rw e (h .unused); places = cc (place-other fs f earlier s e, h .places) }
 
-  module _ (p : List ℕ) (t : T (every (standing p) fs)) where
+  module _ (p : List ℕ) (t : T (every (coded p) fs)) where
     -- what the first open slot with its ID says
     means-openIn : (slots earlier : List Slot) (m : ℕ) → fieldCount (f .id) fs ≡ slotCount (f .id) earlier + m
         → Means earlier slots m (openIn slots (placesBehind earlier slots fs) (f .id))
@@ -297,7 +293,7 @@ module _ (fs : List Field) (f : Field) where
 abbrev pub useIn : List Slot → List Field → Field → Use
 useIn slots fs f = openIn slots (placesIn slots fs) (f .id)
 
-module _ (p : List ℕ) (slots : List Slot) (fs : List Field) (f : Field) (t : T (every (standing p) fs)) where
+module _ (p : List ℕ) (slots : List Slot) (fs : List Field) (f : Field) (t : T (every (coded p) fs)) where
   use-means : (u : Use) → useIn slots fs f ≡ u → Means fs f [] slots (fieldCount (f .id) fs) u
   unfolding placesIn filledIn slotsWith
   use-means u e = rw e at (means-openIn fs f p t slots [] (fieldCount (f .id) fs) (sym (zero-add (fieldCount (f .id) fs))))

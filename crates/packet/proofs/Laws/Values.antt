@@ -25,7 +25,8 @@ use Rattle.packet.specs.Judge.{Held, absent, given, numberAt, fits, held
 use Rattle.packet.specs.Reading.{refused, reads, slotsIn, messageOf, readAs}
 use Rattle.packet.specs.Inner.{kindNumbered, noSlot, slotsBy, slotsNumbered, placeOf, placesIn, numberFrom, nameFrom, indicatorFrom, resultFrom, causeFrom, valuesFrom}
 use Rattle.packet.proofs.Laws.Kinds.{of-seven, kindNumbered-some, kindNumbered-kind, slotsOf-granted}
-use Rattle.packet.proofs.Laws.Sound.{coded, coded-at, coded-len, fieldsOf-high, filled, Sound, AllSound, fault-sound}
+use Rattle.packet.proofs.Laws.Fields.{coded, coded-says, fieldsOf-high}
+use Rattle.packet.proofs.Laws.Sound.{filled, Sound, AllSound, fault-sound}
 use Rattle.packet.proofs.Laws.Unused.{Apart, faultOf-padded, placesIn-padded}
 
 -- ---- values by places
@@ -55,7 +56,7 @@ module _ (p : List ℕ) where
   -- a name
   name-held : (o : Option Field) → Sound p (must 6 UserId) o → nameFrom p (placeOf o) ≡ heldBy p (filled (must 6 UserId) o)
   unfolding heldIn
-  name-held = must-held (nameFrom p) (must 6 UserId) refl (λ f h t. rw (coded-len p f h))
+  name-held = must-held (nameFrom p) (must 6 UserId) refl (λ f h t. rw (coded-says p f h .len))
 
   -- the number of a Source, or of a Reject Cause that must be there
   number-held : (id : ℕ) (form : Form) → ((f : Field) → heldIn form p f ≡ given (numberAt p f))
@@ -79,7 +80,7 @@ module _ (p : List ℕ) where
   indicator-held : (o : Option Field) → Sound p (may 13 Number) o → indicatorFrom p (placeOf o) ≡ heldBy p (filled (may 13 Number) o)
   unfolding heldBy heldIn numberFrom numberAt
   indicator-held none t = refl
-  indicator-held (some f) t = rw (ne-eqb (f .at) 0 (λ e. omega (arith, coded-at p f (t .0))))
+  indicator-held (some f) t = rw (ne-eqb (f .at) 0 (λ e. omega (arith, coded-says p f (t .0) .above)))
 
   -- whether a Result is 1, by its place
   grant-number : (id : ℕ) (o : Option Field) → Sound p (must id Result) o → grantIn p o ≡ eqb (numberFrom p (placeOf o)) 1

@@ -40,7 +40,7 @@ bad-requires-2 c κs = tt
 returns-2 : tie.Need-returns-2
 returns-2 c =
     let a = c .before .before .before .before .args in
-    c .bad2 .ensures ∙ sym (step-misplaced (now (a .packet)) (a .at) (λ h. c .before .if2 .taken (h .1)))
+    c .bad2 .ensures ∙ sym (step-misplaced (now (a .packet)) (a .at) (λ h. omega (arith, c .before .if2 .taken)))
 
 bad-requires-3 : tie.Need-bad-requires-3
 bad-requires-3 c κs = tt

@@ -11,13 +11,22 @@ use Rattle.packet.proofs.Laws.Kinds.{seventh}
 use Rattle.packet.proofs.values.message_of.Statement.{statement}
 use Rattle.packet.proofs.values.message_of.Tie as tie
 
--- four octets stand at each place
-inside : (c : tie.Start) (i : ℕ) → i < 3 → getD (c .args .t4) i 0 + 4 ≤ length (c .args .packet .now)
+-- four octets stand at a place
+inside-at : (c : tie.Start) (i : ℕ) → i < 3 → getD (c .args .t4) i 0 + 4 ≤ length (c .args .packet .now)
 unfolding PlacesInside
-inside c i h =
+inside-at c i h =
     let p = c .args .packet .now in
     leb→le (getD (c .args .t4) i 0 + 4) (length p)
     (every-getD (λ (a : ℕ). leb (a + 4) (length p)) (c .args .t4) i 0 (c .pre .3) (omega arith))
+
+-- at each of the three
+record Inside (c : tie.Start) : Type 0 where
+  first : getD (c .args .t4) 0 0 + 4 ≤ length (c .args .packet .now)
+  second : getD (c .args .t4) 1 0 + 4 ≤ length (c .args .packet .now)
+  third : getD (c .args .t4) 2 0 + 4 ≤ length (c .args .packet .now)
+
+inside : (c : tie.Start) → Inside c
+inside c = record { first = inside-at c 0 (lit< tt); second = inside-at c 1 (lit< tt); third = inside-at c 2 (lit< tt) }
 
 array-read-first : tie.Need-array-read-first
 array-read-first c = search needs
@@ -29,43 +38,69 @@ array-read-third : tie.Need-array-read-third
 array-read-third c = search needs
 
 name-at-requires : tie.Need-name-at-requires
-name-at-requires c κs = (inside (c .before .before) 0 (lit< tt), c .before .before .pre .2)
+name-at-requires c κs =
+    let i = inside (c .before .before) in
+    (omega arith, c .before .before .pre .2)
 
 name-at-requires-2 : tie.Need-name-at-requires-2
-name-at-requires-2 c κs = (inside (c .before .before .before) 1 (lit< tt), c .before .before .before .pre .2)
+name-at-requires-2 c κs =
+    let i = inside (c .before .before .before) in
+    (omega arith, c .before .before .before .pre .2)
 
 indicator-at-requires : tie.Need-indicator-at-requires
-indicator-at-requires c κs = inside (c .before .before .before .before) 2 (lit< tt)
+indicator-at-requires c κs =
+    let i = inside (c .before .before .before .before) in
+    omega arith
 
 verdict-at-requires : tie.Need-verdict-at-requires
-verdict-at-requires c κs = (inside (c .before .before) 0 (lit< tt), inside (c .before .before) 1 (lit< tt))
+verdict-at-requires c κs =
+    let i = inside (c .before .before) in
+    (omega arith, omega arith)
 
 indicator-at-requires-2 : tie.Need-indicator-at-requires-2
-indicator-at-requires-2 c κs = inside (c .before .before .before) 2 (lit< tt)
+indicator-at-requires-2 c κs =
+    let i = inside (c .before .before .before) in
+    omega arith
 
 name-at-requires-3 : tie.Need-name-at-requires-3
-name-at-requires-3 c κs = (inside (c .before .before) 0 (lit< tt), c .before .before .pre .2)
+name-at-requires-3 c κs =
+    let i = inside (c .before .before) in
+    (omega arith, c .before .before .pre .2)
 
 indicator-at-requires-3 : tie.Need-indicator-at-requires-3
-indicator-at-requires-3 c κs = inside (c .before .before .before) 1 (lit< tt)
+indicator-at-requires-3 c κs =
+    let i = inside (c .before .before .before) in
+    omega arith
 
 name-at-requires-4 : tie.Need-name-at-requires-4
-name-at-requires-4 c κs = (inside (c .before .before) 0 (lit< tt), c .before .before .pre .2)
+name-at-requires-4 c κs =
+    let i = inside (c .before .before) in
+    (omega arith, c .before .before .pre .2)
 
 number-at-requires : tie.Need-number-at-requires
-number-at-requires c κs = inside (c .before .before) 0 (lit< tt)
+number-at-requires c κs =
+    let i = inside (c .before .before) in
+    omega arith
 
 indicator-at-requires-4 : tie.Need-indicator-at-requires-4
-indicator-at-requires-4 c κs = inside (c .before .before .before) 1 (lit< tt)
+indicator-at-requires-4 c κs =
+    let i = inside (c .before .before .before) in
+    omega arith
 
 number-at-requires-2 : tie.Need-number-at-requires-2
-number-at-requires-2 c κs = inside (c .before .before) 0 (lit< tt)
+number-at-requires-2 c κs =
+    let i = inside (c .before .before) in
+    omega arith
 
 add-t28 : tie.Need-add-t28
-add-t28 c = omega (arith, inside (c .before .before .before) 1 (lit< tt))
+add-t28 c =
+    let i = inside (c .before .before .before) in
+    omega arith
 
 shared-slice-read-t30 : tie.Need-shared-slice-read-t30
-shared-slice-read-t30 c = omega (arith, inside (c .before .before .before .before) 1 (lit< tt))
+shared-slice-read-t30 c =
+    let i = inside (c .before .before .before .before) in
+    omega arith
 
 returns : tie.Need-returns
 unfolding valuesFrom
