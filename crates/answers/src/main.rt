@@ -2,7 +2,8 @@
 //
 // Standard input: how many cases there are; then for each an octet for what is asked, a length and that many octets.
 // Standard output: for each case a length and that many octets, the answer. Counts and lengths are four octets, big-endian.
-// What may be asked, 1 to 7, and what then stands in a case and in its answer: question.rt.
+// What may be asked, 1 to 8, and what then stands in a case and in its answer: question.rt.
+mod buffer;
 mod message;
 mod number;
 mod question;
@@ -27,6 +28,7 @@ fn answer(asked: u8, body: &[u8], out: &mut [u8]) -> usize
         5 => question::is_user_id(body, out),
         6 => question::packets(body, out),
         7 => question::fields(body, out),
+        8 => question::write(body, out),
         _ => 0,
     }
 }

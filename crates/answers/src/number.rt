@@ -2,6 +2,27 @@
 ghost use Prim.Native.Nat.{_+_, _<_, _≤_};
 ghost use lib.ListN.{length};
 
+// The k-th of some numbers of four octets.
+pub fn nth(body: &[u8], k: usize) -> u32
+    requires { ⌜ k < 19 ⌝ }
+{
+    octets::u32_at(body, k * 4)
+}
+
+// The same, by its last two octets alone.
+pub fn short(body: &[u8], k: usize) -> u16
+    requires { ⌜ k < 19 ⌝ }
+{
+    (nth(body, k) % 65536) as u16
+}
+
+// The same, by its last octet alone.
+pub fn octet(body: &[u8], k: usize) -> u8
+    requires { ⌜ k < 19 ⌝ }
+{
+    (nth(body, k) % 256) as u8
+}
+
 // Puts the k-th of some numbers of four octets.
 pub fn put_nth(out: &mut [u8], k: usize, n: u32)
     requires { ⌜ k < 19 ⌝ }

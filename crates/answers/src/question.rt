@@ -1,4 +1,5 @@
 // One function for each question: takes it from a case's octets, asks, and puts the answer at the front of out.
+use super::buffer;
 use super::message;
 use super::number;
 use super::step;
@@ -159,4 +160,30 @@ pub fn fields(body: &[u8], out: &mut [u8]) -> usize
         put += step::LENGTH;
     }
     put
+}
+
+// 8: what is written of a message under the numbers of a value. Behind those stand the message, the length of the buffer, four
+// octets, and the octets that the message's names lie in. The answer is the buffer's (buffer.rt).
+pub fn write(body: &[u8], out: &mut [u8]) -> usize
+    ensures { λ r. ⌜ r ≤ 1020 ⌝ }
+{
+    let at = value::ROWS + message::LENGTH;
+    if body.len() < at + 4 {
+        return 0;
+    }
+    let room = octets::u32_at(body, at) as usize;
+    let end = buffer::START + room;
+    if room_in(out) < end + message::LENGTH {
+        return 0;
+    }
+    let sheet = value::sheet_in(body);
+    let message = message::message_in(&body[value::ROWS..]);
+    buffer::fill(&mut out[buffer::START..end]);
+    let writing = writing::write(
+        sheet,
+        message,
+        &body[at + 4..],
+        &mut out[buffer::START..end],
+    );
+    end + buffer::put_writing(out, end, sheet, writing)
 }

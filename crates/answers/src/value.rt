@@ -14,22 +14,16 @@ fn octet_at(body: &[u8], at: usize) -> u8 {
     if at < body.len() { body[at] } else { 0 }
 }
 
-fn number_in(body: &[u8], k: usize) -> u32
-    requires { ⌜ k < 19 ⌝ }
-{
-    octets::u32_at(body, k * 4)
-}
-
 fn ssrcs_in(body: &[u8]) -> [u32; 8] {
     [
-        number_in(body, 11),
-        number_in(body, 12),
-        number_in(body, 13),
-        number_in(body, 14),
-        number_in(body, 15),
-        number_in(body, 16),
-        number_in(body, 17),
-        number_in(body, 18),
+        number::nth(body, 11),
+        number::nth(body, 12),
+        number::nth(body, 13),
+        number::nth(body, 14),
+        number::nth(body, 15),
+        number::nth(body, 16),
+        number::nth(body, 17),
+        number::nth(body, 18),
     ]
 }
 
@@ -37,17 +31,17 @@ fn ssrcs_in(body: &[u8]) -> [u32; 8] {
 pub fn sheet_in(body: &[u8]) -> Sheet {
     let ssrcs = ssrcs_in(body);
     Sheet {
-        server: number_in(body, 0),
-        limit: number_in(body, 1),
-        request: number_in(body, 2),
-        response: number_in(body, 3),
-        endrequest: number_in(body, 4),
-        endresponse: number_in(body, 5),
-        txend: number_in(body, 6),
-        txendresponse: number_in(body, 7),
-        ack: number_in(body, 8),
-        resultid: number_in(body, 9),
-        seats: number_in(body, 10),
+        server: number::nth(body, 0),
+        limit: number::nth(body, 1),
+        request: number::nth(body, 2),
+        response: number::nth(body, 3),
+        endrequest: number::nth(body, 4),
+        endresponse: number::nth(body, 5),
+        txend: number::nth(body, 6),
+        txendresponse: number::nth(body, 7),
+        ack: number::nth(body, 8),
+        resultid: number::nth(body, 9),
+        seats: number::nth(body, 10),
         ssrcs,
     }
 }

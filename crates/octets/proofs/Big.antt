@@ -5,14 +5,14 @@ use Prim.Native.Nat.{ℕ, zero, suc, _+_, _*_, _/_, _%_, _^_, _≤_, _<_}
 use native.Mathlib.Nat.{add-zero, add-suc, add-assoc, add-mul, mul-assoc, mul-one, pow-zero, pow-suc, pow-succ', div-one, div-div-eq-div-mul, mod-one, one-le-pow, mod-lt, mod-eq-of-lt}
 use native.Mathlib.Omega.{arith}
 use mathlib.Core.List.{List, [], _∷_, _++_, append-nil, append-assoc}
-use lib.ListN.{length, getD, take, drop, length-append, length-drop, List·getD-eq-default, List·getD-append}
-use lib.Seq.{take-suc, getD-drop, getD-append-add, getD-at}
+use lib.ListN.{length, getD, take, drop, length-append, length-drop, take-append-drop, List·getD-eq-default, List·getD-append}
+use lib.Seq.{take-suc, drop-drop, getD-drop, getD-append-add, getD-at}
 use lib.Arith.{digits-lt, digits-div, digits-mod, mod-mul}
-use lib.Dec.{eqb, eqb→eq}
-use borrow.Author.Tests.{eq-eqb}
-use Rattle.octets.specs.Choice.{same}
+use lib.Dec.{T, ltb, eqb, eqb→eq}
+use borrow.Author.Tests.{eq-eqb, lt-ltb}
+use Rattle.octets.specs.Choice.{same, every}
 use Rattle.octets.specs.Big.{bigAt, bigOf}
-use Rattle.octets.proofs.Choice.{test-eq, true-T, same-eq, eq-same}
+use Rattle.octets.proofs.Choice.{test-eq, true-T, same-eq, eq-same, every-both}
 
 -- ---- a number read at a place
 
@@ -39,6 +39,12 @@ unfolding bigAt
 bigAt-lt zero s at h = omega (arith, pow-zero 256)
 bigAt-lt (suc w) s at h = rw pow-suc (digits-lt (bigAt-lt w s at h) (h (at + w)))
 
+-- a number of what is left from a place on
+pub bigAt-drop : (w n : ℕ) (s : List ℕ) (at : ℕ) → bigAt w (drop n s) at ≡ bigAt w s (n + at)
+unfolding bigAt
+bigAt-drop zero n s at = refl
+bigAt-drop (suc w) n s at = simp (bigAt-drop w n s at, getD-drop, add-assoc)
+
 -- ---- a number as octets
 
 pos : 0 < 256
@@ -59,6 +65,11 @@ pub bigOf-one : (n : ℕ) → bigOf 1 n ≡ n % 256 ∷ []
 unfolding bigOf
 bigOf-one n = refl
 
+-- two octets
+pub bigOf-two : (n : ℕ) → bigOf 2 n ≡ n / 256 % 256 ∷ n % 256 ∷ []
+unfolding bigOf
+bigOf-two n = refl
+
 -- v + w octets: the high v, then the low w
 pub bigOf-add : (v w n : ℕ) → bigOf (v + w) n ≡ bigOf v (n / 256 ^ w) ++ bigOf w n
 unfolding bigOf
@@ -71,6 +82,13 @@ unfolding bigOf
 bigOf-mod zero n = refl
 bigOf-mod (suc w) n =
     rw (pow-suc, mod-step w n, digits-div (n / 256 % 256 ^ w) (mod-lt n pos), digits-mod (n / 256 % 256 ^ w) (mod-lt n pos), bigOf-mod w (n / 256))
+
+-- its octets are octets
+pub every-bigOf : (w n : ℕ) → T (every (λ (x : ℕ). ltb x 256) (bigOf w n))
+unfolding bigOf
+every-bigOf zero n = tt
+every-bigOf (suc w) n =
+    every-both (λ (x : ℕ). ltb x 256) (bigOf w (n / 256)) (n % 256 ∷ []) (every-bigOf w (n / 256)) (rw (lt-ltb (n % 256) 256 (omega arith)) tt)
 
 -- ---- what is put reads back
 
@@ -126,3 +144,8 @@ module _ (s : List ℕ) (octets : (i : ℕ) → getD s i 0 < 256) where
       (λ t. true-T (eqb (bigAt w s at) n)
       (eq-eqb (bigAt w s at) n (bigOf-inj w (bigAt w s at) n (bigAt-lt w s at octets) l (bigOf-bigAt w at h ∙ same-eq (take w (drop at s)) (bigOf w n) t))))
       (λ t. eq-same (take w (drop at s)) (bigOf w n) (sym (bigOf-bigAt w at h) ∙ ap (bigOf w) (eqb→eq (bigAt w s at) n t)))
+
+-- what is left from a place on: the octets of the number there, then what is left behind them
+pub drop-bigAt : (s : List ℕ) → ((i : ℕ) → getD s i 0 < 256) → (w at : ℕ) → at + w ≤ length s
+    → drop at s ≡ bigOf w (bigAt w s at) ++ drop (at + w) s
+drop-bigAt s o w at h = sym (take-append-drop w (drop at s)) ∙ rw (drop-drop, bigOf-bigAt s o w at h)

@@ -3,13 +3,13 @@
 use mathlib.Core.Path.{_≡_, refl, sym, _∙_}
 use mathlib.Core.Logic.{⊎-elim}
 use Prim.Native.Nat.{ℕ, zero, suc, _+_, _-_, _/_, _%_, _^_, _≤_, _<_}
-use native.Mathlib.Nat.{zero-add, add-assoc, sub-zero, add-sub-of-le, sub-eq-zero-of-le}
+use native.Mathlib.Nat.{zero-add, add-zero, add-assoc, sub-zero, add-sub-of-le, sub-eq-zero-of-le}
 use native.Mathlib.Numerals.{add-one}
 use native.Mathlib.Omega.{arith}
 use mathlib.Core.Bool.{_&&_}
 use mathlib.Core.List.{List, [], _∷_, _++_, append-nil, append-assoc}
-use lib.ListN.{length, getD, set, take, drop, replicate, length-append, length-drop, length-take, length-set, length-replicate, drop-of-length-le, List·getD-eq-default, List·getD-append}
-use lib.Seq.{take-append-seam, take-suc, drop-append-seam, set-append-seam, drop-append-add, drop-drop, drop-cons, set-split, set-out, length-take-le, take-at, drop-at, set-append-left, getD-drop, getD-take, ext-getD}
+use lib.ListN.{length, getD, set, take, drop, replicate, take-append-drop, length-append, length-drop, length-take, length-set, length-replicate, drop-of-length-le, List·getD-eq-default, List·getD-append}
+use lib.Seq.{take-all, take-append-seam, take-suc, drop-append-seam, set-append-seam, drop-append-add, drop-drop, drop-cons, set-split, set-out, length-take-le, take-at, drop-at, set-append-left, getD-drop, getD-take, ext-getD}
 use lib.Dec.{T, eqb, eqb→eq}
 use borrow.Author.Tests.{le-leb, lt-leb}
 use Rattle.octets.specs.Choice.{same}
@@ -43,6 +43,15 @@ drop-over xs s = drop-append-seam xs (drop (length xs) s)
 -- the part past the first octets is overwritten by the next
 pub over-then : (xs ys s : List ℕ) → take (length xs) (over xs s) ++ over ys (drop (length xs) (over xs s)) ≡ over (xs ++ ys) s
 over-then xs ys s = rw (take-over, drop-over) (unfold over in simp (length-append, drop-drop, append-assoc))
+
+-- octets that go into the part behind the first n, and what comes back
+pub part-over : (n : ℕ) (xs ys s : List ℕ) → length xs ≡ n
+    → take n (over xs s) ++ (over ys (take (length (over xs s) - n) (drop n (over xs s))) ++ drop (length (over xs s) - n) (drop n (over xs s)))
+    ≡ over (xs ++ ys) s
+part-over n xs ys s e =
+    let rest = drop n (over xs s) in
+    let l : length rest ≤ length (over xs s) - n = omega (arith, length-drop n (over xs s)) in
+    rw (take-all (length (over xs s) - n) rest l, drop-of-length-le rest l, append-nil, ← e) (over-then xs ys s)
 
 -- a store just past the octets
 pub set-over : (xs s : List ℕ) (y : ℕ) → length xs < length s → set (over xs s) (length xs) y ≡ over (xs ++ (y ∷ [])) s
@@ -119,6 +128,28 @@ putAt-then s at xs ys h =
 pub set-putAt : (s : List ℕ) (at : ℕ) (xs : List ℕ) (y : ℕ) → at + length xs < length s
     → set (putAt s at xs) (at + length xs) y ≡ putAt s at (xs ++ (y ∷ []))
 set-putAt s at xs y h = rw (← putAt-one) (putAt-then s at xs (y ∷ []) (omega arith))
+
+-- nothing put leaves the buffer alone
+pub putAt-nil : (s : List ℕ) (at : ℕ) → putAt s at [] ≡ s
+putAt-nil s at = putAt-cases (λ r. r ≡ s) s at [] (λ h. rw (append-nil, add-zero, take-append-drop)) (λ h. refl)
+
+-- one octet more
+pub set-putAt-take : (xs s : List ℕ) (at i : ℕ) → i < length xs → at + length xs ≤ length s
+    → set (putAt s at (take i xs)) (at + i) (getD xs i 0) ≡ putAt s at (take (i + 1) xs)
+set-putAt-take xs s at i h l =
+    let e : length (take i xs) ≡ i = length-take-le i xs (omega arith) in
+    rw (add-one, take-suc xs i 0 h) (rw e at (set-putAt s at (take i xs) (getD xs i 0) (rw e (omega arith))))
+
+-- octets put at the place just past the last ones
+pub putAt-next : (s : List ℕ) (at : ℕ) (xs ys : List ℕ) (next : ℕ) → next ≡ at + length xs → next + length ys ≤ length s
+    → putAt (putAt s at xs) next ys ≡ putAt s at (xs ++ ys)
+putAt-next s at xs ys next e h = rw e (putAt-then s at xs ys (omega arith))
+
+-- octets behind two that are stored one by one
+pub putAt-pair : (s : List ℕ) (at x y : ℕ) (xs : List ℕ) → at + 2 + length xs ≤ length s
+    → putAt (set (set s at x) (at + 1) y) (at + 2) xs ≡ putAt s at (x ∷ y ∷ xs)
+putAt-pair s at x y xs h =
+    rw (← putAt-one s at x, set-putAt s at (x ∷ []) y (omega arith)) (putAt-then s at (x ∷ y ∷ []) xs h)
 
 -- a buffer overwritten from its front has the octets put at its start
 pub over-putAt : (xs s : List ℕ) → length xs ≤ length s → over xs s ≡ putAt s 0 xs

@@ -238,10 +238,14 @@ every-drop p (suc n) [] t = t
 every-drop p (suc n) (x ∷ l) t = every-drop p n l (T-and-right (p x) (every p l) t)
 
 -- what holds of each by one test holds by a weaker one
-pub every-weaker : (p q : ℕ → Bool) → ((c : ℕ) → T (p c) → T (q c)) → (cs : List ℕ) → T (every p cs) → T (every q cs)
+pub every-weaker : {A : Type 0} (p q : A → Bool) → ((x : A) → T (p x) → T (q x)) → (l : List A) → T (every p l) → T (every q l)
 every-weaker p q h [] t = tt
-every-weaker p q h (c ∷ cs) t =
-    T-and (q c) (every q cs) (h c (T-and-left (p c) (every p cs) t)) (every-weaker p q h cs (T-and-right (p c) (every p cs) t))
+every-weaker p q h (x ∷ l) t =
+    T-and (q x) (every q l) (h x (T-and-left (p x) (every p l) t)) (every-weaker p q h l (T-and-right (p x) (every p l) t))
+
+-- one that holds of each element of two lists holds of each of the two together
+pub every-both : {A : Type 0} (p : A → Bool) (xs ys : List A) → T (every p xs) → T (every p ys) → T (every p (xs ++ ys))
+every-both p xs ys t u = rw every-append (T-and (every p xs) (every p ys) t u)
 
 -- ---- front: the longest front of which a test holds
 

@@ -19,6 +19,12 @@ module _ {A : Type 0} (p : A → Bool) where
       (λ t. rw (T-true (p x) t, keep-append xs ys))
       (λ e. rw (e, keep-append xs ys))
 
+  -- a test that holds of each element keeps all
+  pub keep-all : (xs : List A) → T (every p xs) → keep p xs ≡ xs
+  keep-all [] t = refl
+  keep-all (x ∷ xs) t =
+      rw (T-true (p x) (T-and-left (p x) (every p xs) t), keep-all xs (T-and-right (p x) (every p xs) t))
+
   -- the test holds of each of them
   pub every-keep : (xs : List A) → T (every p (keep p xs))
   every-keep [] = tt

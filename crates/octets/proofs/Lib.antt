@@ -5,3 +5,4 @@ pub mod Places
 pub mod Big
 pub mod Buffer
 pub mod Text
+pub mod First

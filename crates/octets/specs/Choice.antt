@@ -48,3 +48,8 @@ front p (x ∷ xs) = pick (p x) (x ∷ front p xs) []
 abbrev pub first-place {ℓ} : {A : Type ℓ} → (A → Bool) → List A → Option ℕ
 first-place p [] = none
 first-place p (x ∷ xs) = pick (p x) (some zero) (Option·map suc (first-place p xs))
+
+-- the first element of which the test holds
+abbrev pub first-by {ℓ} : {A : Type ℓ} → (A → Bool) → List A → Option A
+first-by p [] = none
+first-by p (x ∷ xs) = pick (p x) (some x) (first-by p xs)

@@ -3,7 +3,7 @@
 use mathlib.Core.Path.{_≡_}
 use mathlib.Core.Logic.{_↔_}
 use Prim.Native.Nat.{ℕ, _+_, _-_, _<_}
-use mathlib.Core.Bool.{Bool, true, false, not, _&&_, _||_}
+use mathlib.Core.Bool.{Bool, true, false, _&&_}
 use mathlib.Core.List.{List, [], _∷_, _++_}
 use mathlib.Core.Option.{Option, none, some}
 use lib.ListN.{length, take, drop}
@@ -18,7 +18,7 @@ use Rattle.packet.specs.declared.kind.Form.the-variants.{UserId, Number,
 use Rattle.packet.specs.Header.{firstField, sizeRight, headRight, ackAsked, ssrcIn}
 use Rattle.packet.specs.Walk.{fieldsOf, stopFrom, whole}
 use Rattle.packet.specs.Layout.{Content, laid, laidAll, idRight, idsRight, contentsOf}
-use Rattle.packet.specs.Kind.{Need, always, maybe, unlessGranted, Row, Kind, kindOf}
+use Rattle.packet.specs.Kind.{Row, Kind, kindOf, mayLack, mayHave, grants}
 use Rattle.packet.specs.Judge.{Held, absent, given, named, fieldsWith, fits, heldIn}
 use Rattle.packet.specs.Reading.{reads, readBy, readOf}
 
@@ -79,17 +79,6 @@ present [] = []
 present (none ∷ os) = present os
 present (some f ∷ os) = f ∷ present os
 
--- "may be absent"; "exactly if Result is 0"
-unfoldable pub mayLack : Bool → Need → Bool
-mayLack grant always = false
-mayLack grant maybe = true
-mayLack grant unlessGranted = grant
-
-unfoldable pub mayHave : Bool → Need → Bool
-mayHave grant always = true
-mayHave grant maybe = true
-mayHave grant unlessGranted = not grant
-
 -- what a row of the table allows: a field of its ID and form with its value, or none
 abbrev pub Allows : List ℕ → Bool → Row → Option Field → Held → Type 0
 Allows p grant r none v = T (mayLack grant (r .need)) × (v ≡ absent)
@@ -104,24 +93,11 @@ AllowsAll p grant (r ∷ rows) [] values = ⊥
 AllowsAll p grant (r ∷ rows) (o ∷ os) [] = ⊥
 AllowsAll p grant (r ∷ rows) (o ∷ os) (v ∷ values) = Allows p grant r o v × AllowsAll p grant rows os values
 
--- the message's Result is 1
-unfoldable pub isResult : Form → Bool
-isResult UserId = false
-isResult Number = false
-isResult Cause = false
-isResult Result = true
-isResult MessageType = false
-isResult Barred = false
-
+-- the value of a Result that is 1
 unfoldable pub isOne : Held → Bool
 isOne absent = false
 isOne (given n) = eqb n 1
 isOne (named at len) = false
-
-unfoldable pub grants : List Row → List Held → Bool
-grants [] values = false
-grants (r ∷ rows) [] = false
-grants (r ∷ rows) (v ∷ values) = (isResult (r .form) && isOne v) || grants rows values
 
 -- A packet past checks 1 to 4 reads to a message exactly if its fields, less those the kind has no use for, are an arrangement
 -- that the table allows, with those values.
@@ -130,5 +106,5 @@ AcceptsExactly =
     (n : Numbers) (p : List ℕ) (k : Kind) (values : List Held)
     → Headed p → kindOf n p ≡ some k → T (whole p)
     → (readBy n p ≡ reads (k .kind) (ssrcIn p) (ackAsked p) values)
-    ↔ ((chosen : List (Option Field)) × AllowsAll p (grants (k .rows) values) (k .rows) chosen values
+    ↔ ((chosen : List (Option Field)) × AllowsAll p (grants isOne (k .rows) values) (k .rows) chosen values
     × Arranged (useful (k .rows) (fieldsOf p)) (present chosen))

@@ -1,11 +1,11 @@
 -- The seven messages and the fields of each, as a table (document 01, "Packet"; sources 002 and 004). Assumes nothing.
 use Prim.Native.Nat.{ℕ}
 use Prim.Native.String.{String}
-use mathlib.Core.Bool.{Bool, true, false, _&&_}
+use mathlib.Core.Bool.{Bool, true, false, not, _&&_, _||_}
 use mathlib.Core.List.{List, [], _∷_, map}
-use mathlib.Core.Option.{Option, none, some}
+use mathlib.Core.Option.{Option}
 use lib.Dec.{eqb}
-use Rattle.octets.specs.Choice.{pick, same}
+use Rattle.octets.specs.Choice.{pick, same, first-by}
 use Rattle.octets.specs.Text.{ascii}
 use Rattle.sheet.specs.declared.Sheet.{Sheet}
 use Rattle.packet.specs.declared.kind.Numbers.{Numbers}
@@ -65,12 +65,8 @@ unfoldable pub hasKind : List ℕ → Kind → Bool
 hasKind p k = same (lettersIn p) (k .letters) && eqb (numberIn p) (k .number)
 
 -- the first of the kinds that the packet has
-unfoldable pub kindAmong : List ℕ → List Kind → Option Kind
-kindAmong p [] = none
-kindAmong p (k ∷ ks) = pick (hasKind p k) (some k) (kindAmong p ks)
-
 unfoldable pub kindOf : Numbers → List ℕ → Option Kind
-kindOf n p = kindAmong p (kinds n)
+kindOf n p = first-by (hasKind p) (kinds n)
 
 -- A kind's slots for its fields, once it is known whether the packet's Result is 1: "beside Result 1 a Reject Cause is refused",
 -- so that nothing fits there, and else it must be there.
@@ -84,6 +80,33 @@ settled granted r = at (r .need)
 
 unfoldable pub slotsOf : Bool → Kind → List Slot
 slotsOf granted k = map (settled granted) (k .rows)
+
+-- ---- what a row allows, where the message's Result is 1 and where it is not
+
+-- "may be absent"; "exactly if Result is 0"
+unfoldable pub mayLack : Bool → Need → Bool
+mayLack grant always = false
+mayLack grant maybe = true
+mayLack grant unlessGranted = grant
+
+unfoldable pub mayHave : Bool → Need → Bool
+mayHave grant always = true
+mayHave grant maybe = true
+mayHave grant unlessGranted = not grant
+
+unfoldable pub isResult : Form → Bool
+isResult UserId = false
+isResult Number = false
+isResult Cause = false
+isResult Result = true
+isResult MessageType = false
+isResult Barred = false
+
+-- the Result of a message with these values is 1; the test says which value is
+unfoldable pub grants : {A : Type 0} → (A → Bool) → List Row → List A → Bool
+grants one [] values = false
+grants one (r ∷ rows) [] = false
+grants one (r ∷ rows) (v ∷ values) = (isResult (r .form) && one v) || grants one rows values
 
 -- what the reader looks at of a sheet
 unfoldable pub numbersOf : Sheet → Numbers

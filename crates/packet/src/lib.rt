@@ -129,7 +129,8 @@ fn read_by(numbers: Numbers, packet: &[u8]) -> Reading
 pub fn read(sheet: Sheet, packet: &[u8]) -> Reading
     ensures { λ r. ⌜ read≡ sheet (now (packet .entry)) r ⌝ }
 {
-    if !sheet::valid(sheet) {
+    let numbers = sheet::numbers::numbers_of(sheet);
+    if !sheet::numbers::are_valid(&numbers) {
         return refused(12);
     }
     read_by(kind::numbers_of(sheet), packet)

@@ -13,3 +13,4 @@ pub mod Judgement
 pub mod Scanned
 pub mod Claims
 pub mod Values
+pub mod Bounds

@@ -40,10 +40,6 @@ pub record RuleOf (k : ℕ) (r : Rule) : Type 0 where
   pub within : r .end ≤ length keys
   pub key : take (r .end - r .from) (drop (r .from) keys) ≡ rowAt k .key
 
--- whether these are the numbers of some sheet, with its SSRCs behind them
-abbrev pub AreGood : List ℕ → Bool → Type 0
-AreGood ns r = (s : Sheet) → ns ≡ numbersOf s ++ s .ssrcs → r ≡ validAlone s
-
 -- numbers are told apart as far as this
 abbrev pub cap : ℕ
 cap = 4294967296

@@ -3,7 +3,7 @@
 use mathlib.Core.Path.{_≡_, refl}
 use Prim.Native.Nat.{ℕ}
 use mathlib.Core.Bool.{Bool}
-use mathlib.Core.List.{List}
+use mathlib.Core.List.{List, _++_}
 use Rattle.octets.specs.Promises.{one-answer, one-value}
 use Rattle.sheet.specs.declared.Sheet.{Sheet}
 use Rattle.sheet.specs.declared.Reading.{Reading}
@@ -11,7 +11,7 @@ use Rattle.sheet.specs.declared.Senders.{Senders}
 use Rattle.sheet.specs.declared.Found.{Found}
 use Rattle.sheet.specs.declared.Found.the-variants.{Seat, Nobody}
 use Rattle.sheet.specs.Judge.{userId}
-use Rattle.sheet.specs.Value.{readOf, usersIn, validAlone, validWith}
+use Rattle.sheet.specs.Value.{readOf, usersIn, numbersOf, sheetFrom, validAlone, validWith}
 use Rattle.sheet.specs.Find.{foundSaid, seatOfSsrc, seatOfUser}
 
 -- the value and the octets used, or 12 with its line
@@ -41,6 +41,20 @@ valid-with≡ sheet users r = r ≡ validWith sheet users
 
 pub valid-with-once : (sheet : Sheet) (users : List (List ℕ)) (x y : Bool) → valid-with≡ sheet users x → valid-with≡ sheet users y → x ≡ y
 valid-with-once sheet users x y p q = one-value x y p q
+
+-- a struct's numbers in the order of the lines, and the SSRCs behind them
+abbrev pub numbers-of≡ : Sheet → List ℕ → Type 0
+numbers-of≡ sheet r = r ≡ numbersOf sheet ++ sheet .ssrcs
+
+pub numbers-of-once : (sheet : Sheet) (x y : List ℕ) → numbers-of≡ sheet x → numbers-of≡ sheet y → x ≡ y
+numbers-of-once sheet x y p q = one-value x y p q
+
+-- some sheet reads to the struct with these numbers
+abbrev pub are-valid≡ : List ℕ → Bool → Type 0
+are-valid≡ numbers r = r ≡ validAlone (sheetFrom numbers)
+
+pub are-valid-once : (numbers : List ℕ) (x y : Bool) → are-valid≡ numbers x → are-valid≡ numbers y → x ≡ y
+are-valid-once numbers x y p q = one-value x y p q
 
 -- these octets can be a User ID
 abbrev pub is-user-id≡ : List ℕ → Bool → Type 0

@@ -2,6 +2,7 @@
 pub mod find;
 mod line;
 mod number;
+pub mod numbers;
 mod scan;
 mod seat;
 mod table;
@@ -87,16 +88,16 @@ pub fn users(text: &[u8]) -> Users
 pub fn valid(sheet: Sheet) -> bool
     ensures { λ r. ⌜ valid≡ sheet r ⌝ }
 {
-    let numbers = number::numbers_of(sheet);
-    number::are_good(&numbers)
+    let numbers = numbers::numbers_of(sheet);
+    numbers::are_valid(&numbers)
 }
 
 // Whether some sheet reads to this struct and these User IDs.
 pub fn valid_with(sheet: Sheet, users: &Users) -> bool
     ensures { λ r. ⌜ valid-with≡ sheet (now (users .entry)) r ⌝ }
 {
-    let numbers = number::numbers_of(sheet);
-    if !number::are_good(&numbers) {
+    let numbers = numbers::numbers_of(sheet);
+    if !numbers::are_valid(&numbers) {
         return false;
     }
     let seats = sheet.seats;

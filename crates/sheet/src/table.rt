@@ -25,9 +25,6 @@ pub const SEATS_LINE: usize = 10;
 // How many lines the longest sheet has.
 pub const LINES: usize = NUMBER_LINES + SEATS;
 
-// The numbers of its lines, in order.
-pub type Numbers = [u32; LINES];
-
 pub const KEYS: [u8; 97] =
     *b"server=limit=request=response=endrequest=endresponse=txend=txendresponse=ack=resultid=seats=seat=";
 

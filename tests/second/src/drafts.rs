@@ -1,7 +1,7 @@
 //! Packets in their parts, so that each part can be another, and good ones of every kind.
 
 use crate::good;
-use crate::packet::{INDICATOR, MESSAGES, MESSAGE_TYPE, REJECT_CAUSE, SOURCE, USER_ID};
+use crate::packet::{INDICATED, INDICATOR, MESSAGES, MESSAGE_TYPE, REJECT_CAUSE, SOURCE, USER_ID};
 use crate::random::Random;
 use crate::sheet::Sheet;
 
@@ -80,10 +80,12 @@ fn name(random: &mut Random) -> Part {
     Part(USER_ID, good::name(random))
 }
 
+/// Numbers of two octets at and about the edges.
+pub const NUMBERS: [u16; 10] = [0, 1, 2, 8, 255, 256, 32767, 32768, 65534, 65535];
+
 /// A number of two octets, often at an edge.
 fn number(random: &mut Random) -> Octets {
-    let edges = [0, 1, 2, 8, 255, 256, 32767, 32768, 65534, 65535];
-    let number = if random.once_in(2) { *random.pick(&edges) } else { random.word() as u16 };
+    let number = if random.once_in(2) { *random.pick(&NUMBERS) } else { random.word() as u16 };
     number.to_be_bytes().to_vec()
 }
 
@@ -122,7 +124,7 @@ fn needed(random: &mut Random, sheet: &Sheet, kind: u32) -> Vec<Vec<Part>> {
 /// The same, without and with an Indicator where a kind may have one.
 fn shapes(random: &mut Random, sheet: &Sheet, kind: u32) -> Vec<Vec<Part>> {
     let mut shapes = needed(random, sheet, kind);
-    if [1, 2, 3, 5].contains(&kind) {
+    if INDICATED.contains(&kind) {
         for mut shape in shapes.clone() {
             shape.push(indicator(random));
             shapes.push(shape);

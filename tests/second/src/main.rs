@@ -10,15 +10,20 @@ mod compare;
 mod damage;
 mod drafts;
 mod good;
+mod messages;
 mod packet;
 mod packets;
 mod places;
 mod random;
 mod sample;
 mod sheet;
+mod shown;
+mod tally;
 mod texts;
+mod to_write;
 mod values;
 mod wire;
+mod writer;
 
 use random::Random;
 use std::io::{self, Read, Write};
@@ -34,6 +39,7 @@ fn cases(seed: u64, rounds: usize) -> Vec<Case> {
     cases.extend(values::systematic_names().into_iter().map(Case::UserId));
     cases.extend(packets::systematic(random));
     cases.extend(places::systematic(random));
+    cases.extend(messages::systematic(random));
     for _ in 0..rounds {
         cases.push(Case::Read(texts::any(random)));
         cases.push(Case::Valid(values::any(random)));
@@ -41,6 +47,7 @@ fn cases(seed: u64, rounds: usize) -> Vec<Case> {
         cases.push(Case::UserId(values::any_name(random)));
         cases.push(packets::some(random));
         cases.push(places::some(random));
+        cases.extend(messages::some(random));
     }
     cases
 }

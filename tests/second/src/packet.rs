@@ -1,7 +1,7 @@
 //! Packets, written from document 01 alone: what stands at a place among the fields, and which message a packet is.
 
 use crate::sheet::{self, Sheet};
-use std::ops::Range;
+use std::ops::{Range, RangeInclusive};
 
 /// The messages in the order of their kinds, from 1: their letters, and the sheet's key for their number.
 pub const MESSAGES: [(&[u8; 4], &str); 7] = [
@@ -13,6 +13,13 @@ pub const MESSAGES: [(&[u8; 4], &str); 7] = [
     (b"MCV2", "txendresponse"),
     (b"MCV2", "ack"),
 ];
+
+/// The kinds whose messages may have an Indicator.
+pub const INDICATED: [u32; 4] = [1, 2, 3, 5];
+
+pub fn kinds() -> RangeInclusive<u32> {
+    1..=MESSAGES.len() as u32
+}
 
 /// Where the fields begin.
 pub const HEAD: usize = 12;
@@ -28,7 +35,7 @@ pub const INDICATOR: u8 = 13;
 /// From here on an ID is refused.
 pub const NO_ID: u8 = 192;
 
-/// The values of a message. What its kind has not is absent; names are places in the packet.
+/// The values of a message. What its kind has not is absent; names are places in the octets beside it, a packet's or others.
 #[derive(Clone, Default, PartialEq, Eq, Debug)]
 pub struct Message {
     pub kind: u32,
@@ -247,11 +254,7 @@ pub fn read(sheet: &Sheet, packet: &[u8]) -> Reading {
 #[cfg(test)]
 mod tests {
     use super::*;
-    use crate::bench::{octets, s_with, PACKETS, S};
-
-    fn sheet_s() -> Sheet {
-        sheet::read(S.as_bytes()).unwrap().0
-    }
+    use crate::bench::{messages, octets, s_with, sheet_s, PACKETS};
 
     fn read_s(hex: &str) -> Reading {
         read(&sheet_s(), &octets(hex))
@@ -259,15 +262,8 @@ mod tests {
 
     #[test]
     fn bench_cases_read_as_named() {
-        let empty = Message::default();
-        let server = Message { ssrc: 1000, ..empty.clone() };
-        let expected = [
-            Message { kind: 2, result: Some(1), ..server.clone() },
-            Message { kind: 2, result: Some(0), cause: Some(0), ..server.clone() },
-            Message { kind: 1, ssrc: 2, user: Some(14..19), named: Some(22..27), ..empty },
-            Message { kind: 5, cause: Some(8), ..server.clone() },
-            Message { kind: 7, source: Some(2), about: Some(1), ..server },
-        ];
+        let mut expected = messages();
+        (expected[2].user, expected[2].named) = (Some(14..19), Some(22..27));
         for (hex, message) in PACKETS.iter().zip(expected) {
             assert_eq!(read_s(hex), Ok(message));
         }

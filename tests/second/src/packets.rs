@@ -3,7 +3,7 @@
 use crate::damage;
 use crate::drafts::{self, inserted, replaced, Draft, Octets, Part, LETTERS};
 use crate::good;
-use crate::packet::{LONGEST, MESSAGES};
+use crate::packet::{kinds, LONGEST, MESSAGES};
 use crate::random::Random;
 use crate::sheet::{Sheet, SEATS};
 use crate::values;
@@ -14,10 +14,6 @@ const SORTS: usize = 6;
 
 /// How many packets a sheet by chance has.
 const PACKETS: usize = 6;
-
-fn kinds() -> std::ops::RangeInclusive<u32> {
-    1..=MESSAGES.len() as u32
-}
 
 /// Every order of a list.
 fn orders<T: Clone>(list: &[T]) -> Vec<Vec<T>> {

@@ -1,7 +1,8 @@
 //! The few cases that the program `answers` is run on by itself: crates/answers/stdin, and their answers in stdout.
 
 use crate::bench::{self, s_with, S};
-use crate::sheet::{self, Sheet};
+use crate::packet::Message;
+use crate::sheet::Sheet;
 use crate::wire::Case;
 
 /// Packets under S that are refused with 1, 2, 3, 4 and 5: one octet short, type 205, the number of no message, an ID
@@ -29,9 +30,24 @@ fn packets(hex: [&str; 5]) -> Vec<Vec<u8>> {
     hex.map(bench::octets).to_vec()
 }
 
-/// Every question, with P1 to P5 among the packets.
+/// A message to write, whose names lie in those of the bench.
+fn write(sheet: &Sheet, message: &Message, room: usize) -> Case {
+    Case::Write(sheet.clone(), message.clone(), bench::NAMES.to_vec(), room)
+}
+
+/// P1 to P5 into a buffer that is longer; and P3 refused with 12, 5 and 11: no sheet, a name past the end, one octet short.
+fn writings(s: &Sheet) -> Vec<Case> {
+    let messages = bench::messages();
+    let request = &messages[2];
+    let beyond = Message { user: Some(5..11), ..request.clone() };
+    let mut cases: Vec<Case> = messages.iter().map(|message| write(s, message, 32)).collect();
+    cases.extend([write(&Sheet::ZERO, request, 32), write(s, &beyond, 32), write(s, request, 27)]);
+    cases
+}
+
+/// Every question, with P1 to P5 among the packets and the messages.
 pub fn cases() -> Vec<Case> {
-    let (s, _) = sheet::read(S.as_bytes()).expect("sheet S");
+    let s = bench::sheet_s();
     let mut cases: Vec<Case> = texts().into_iter().map(|text| Case::Read(text.into_bytes())).collect();
     cases.extend([
         Case::Valid(s.clone()),
@@ -39,16 +55,18 @@ pub fn cases() -> Vec<Case> {
         Case::ByUser(s.clone(), b"sip:c".to_vec()),
         Case::UserId(b"sip:d".to_vec()),
         Case::Packets(s.clone(), packets(bench::PACKETS)),
-        Case::Packets(s, packets(REFUSED)),
+        Case::Packets(s.clone(), packets(REFUSED)),
         Case::Packets(Sheet::ZERO, packets(bench::PACKETS)),
         Case::Fields(bench::octets(bench::PACKETS[2]), vec![12, 20, 28, 0, 13, 32]),
     ]);
+    cases.extend(writings(&s));
     cases
 }
 
 #[cfg(test)]
 mod tests {
     use super::*;
+    use crate::wire::WRITTEN;
 
     fn file(name: &str) -> Vec<u8> {
         std::fs::read(format!("{}/../../crates/answers/{name}", env!("CARGO_MANIFEST_DIR"))).unwrap()
@@ -58,5 +76,13 @@ mod tests {
     fn the_program_is_run_on_these_cases() {
         assert_eq!(crate::case_octets(&cases()), file("stdin"));
         assert_eq!(crate::answer_octets(&cases()), file("stdout"));
+    }
+
+    #[test]
+    fn document_01_has_the_octets_that_are_written() {
+        for (case, hex) in writings(&bench::sheet_s()).iter().zip(bench::PACKETS) {
+            let (packet, answer) = (bench::octets(hex), case.answer().body());
+            assert_eq!(answer[WRITTEN..WRITTEN + packet.len()], packet);
+        }
     }
 }

@@ -1,7 +1,8 @@
 //! Cases and their answers as octets, in the form that the program `answers` reads and writes (crates/answers/src/main.rt).
 
-use crate::packet::{self, Reading, Step};
-use crate::sheet::{self, Row, Sheet, KEYS, SEATS, WIDTH};
+use crate::packet::{self, Message, Reading, Step};
+use crate::sheet::{self, Sheet};
+use crate::writer::{self, Writing};
 use std::ops::Range;
 
 /// As many packets, and as many places, as the answer to one case has room for.
@@ -11,7 +12,11 @@ const PLACES: usize = 25;
 /// Stands for a number that a message has not.
 const NONE: u32 = u32::MAX;
 
-/// What is asked of the proved functions.
+/// How many octets of an answer say what was written.
+pub const WRITTEN: usize = 16;
+
+/// What is asked of the proved functions. A message to write comes with the octets that its names lie in and with the
+/// length of the buffer.
 #[derive(Clone)]
 pub enum Case {
     Read(Vec<u8>),
@@ -21,9 +26,11 @@ pub enum Case {
     UserId(Vec<u8>),
     Packets(Sheet, Vec<Vec<u8>>),
     Fields(Vec<u8>, Vec<u64>),
+    Write(Sheet, Message, Vec<u8>, usize),
 }
 
-/// The answer to a case.
+/// The answer to a case. To a message to write it is what was written, the buffer afterwards, and what the octets
+/// written read to.
 #[derive(PartialEq, Debug)]
 pub enum Answer<'a> {
     Read { sheet: Box<Sheet>, used: u64, refusal: u32, line: u32 },
@@ -32,6 +39,12 @@ pub enum Answer<'a> {
     UserId(bool),
     Packets(Vec<Reading>),
     Fields(Vec<Step<'a>>),
+    Write(Writing, Vec<u8>, Option<Reading>),
+}
+
+/// The buffer of this length that is lent to the writer: each octet depends on its place.
+pub fn lent(room: usize) -> Vec<u8> {
+    (0..room).map(|at| ((at * 37 + 11) % 251) as u8).collect()
 }
 
 /// The cases that ask for all packets under a sheet.
@@ -58,6 +71,10 @@ impl Case {
             }
             Case::Fields(octets, places) => {
                 (7, [counted(octets), places.iter().flat_map(|place| place.to_be_bytes()).collect()].concat())
+            }
+            Case::Write(sheet, message, names, room) => {
+                let numbers = octets_of(message_numbers(message).into_iter().chain([*room as u32]));
+                (8, [numbers_octets(sheet), numbers, names.clone()].concat())
             }
         };
         [vec![asked], with_length(body)].concat()
@@ -93,6 +110,12 @@ impl Case {
             Case::Fields(octets, places) => {
                 Answer::Fields(places.iter().map(|place| packet::field_at(octets, *place as usize)).collect())
             }
+            Case::Write(sheet, message, names, room) => {
+                let mut out = lent(*room);
+                let writing = writer::write(sheet, message, names, &mut out);
+                let back = writing.ok().map(|octets| packet::read(sheet, &out[..octets]));
+                Answer::Write(writing, out, back)
+            }
         }
     }
 }
@@ -112,11 +135,16 @@ impl Answer<'_> {
             Answer::Seat(Some(s)) => vec![1, *s as u8],
             Answer::Seat(None) => vec![0, 0],
             Answer::UserId(is) => vec![*is as u8],
-            Answer::Packets(readings) => {
-                readings.iter().flat_map(reading_numbers).flat_map(|number| number.to_be_bytes()).collect()
-            }
+            Answer::Packets(readings) => octets_of(readings.iter().flat_map(reading_numbers)),
             Answer::Fields(steps) => {
                 steps.iter().flat_map(step_numbers).flat_map(|number| number.to_be_bytes()).collect()
+            }
+            Answer::Write(writing, out, back) => {
+                let mut octets = writing.map_or(0, |octets| octets as u64).to_be_bytes().to_vec();
+                octets.extend(octets_of([writing.err().unwrap_or(0), 0]));
+                octets.extend(out);
+                octets.extend(octets_of(back.iter().flat_map(reading_numbers)));
+                octets
             }
         }
     }
@@ -127,13 +155,17 @@ impl Answer<'_> {
     }
 }
 
-/// A packet's answer: kind, SSRC, Ack asked, place and length of the User ID and of the named transmitter, Result, cause,
-/// Indicator, Source, Message Type; or 0, the refusal and its place.
+/// A packet's answer: its message; or 0, the refusal and its place.
 fn reading_numbers(reading: &Reading) -> [u32; 12] {
-    let message = match reading {
-        Ok(message) => message,
-        Err(refusal) => return [0, *refusal, 0, 0, 0, 0, 0, 0, 0, 0, 0, 0],
-    };
+    match reading {
+        Ok(message) => message_numbers(message),
+        Err(refusal) => [0, *refusal, 0, 0, 0, 0, 0, 0, 0, 0, 0, 0],
+    }
+}
+
+/// A message: kind, SSRC, Ack asked, place and length of the User ID and of the named transmitter, Result, cause,
+/// Indicator, Source, Message Type.
+fn message_numbers(message: &Message) -> [u32; 12] {
     let place = |name: &Option<Range<usize>>| match name {
         Some(name) => [name.start as u32, name.len() as u32],
         None => [0, 0],
@@ -175,8 +207,13 @@ fn counted(octets: &[u8]) -> Vec<u8> {
     [&count.to_be_bytes(), octets].concat()
 }
 
+/// Numbers of four octets.
+fn octets_of(numbers: impl IntoIterator<Item = u32>) -> Vec<u8> {
+    numbers.into_iter().flat_map(u32::to_be_bytes).collect()
+}
+
 fn numbers_octets(sheet: &Sheet) -> Vec<u8> {
-    sheet.numbers.iter().chain(&sheet.ssrcs).flat_map(|n| n.to_be_bytes()).collect()
+    octets_of(sheet.numbers.into_iter().chain(sheet.ssrcs))
 }
 
 fn sheet_octets(sheet: &Sheet) -> Vec<u8> {
@@ -197,70 +234,4 @@ pub fn take_answer<'a>(octets: &mut &'a [u8]) -> Option<&'a [u8]> {
     let (body, rest) = rest.split_at_checked(length)?;
     *octets = rest;
     Some(body)
-}
-
-fn take_sheet(octets: &mut &[u8]) -> Option<Sheet> {
-    let mut sheet = Sheet::ZERO;
-    for k in 0..KEYS.len() {
-        sheet.numbers[k] = take_number(octets)?;
-    }
-    for s in 0..SEATS {
-        sheet.ssrcs[s] = take_number(octets)?;
-    }
-    for s in 0..SEATS {
-        let (row, rest) = octets.split_first_chunk::<WIDTH>()?;
-        sheet.users[s] = *row;
-        *octets = rest;
-    }
-    Some(sheet)
-}
-
-fn shown_row(row: &Row) -> String {
-    sheet::name_in(row).escape_ascii().to_string()
-}
-
-fn shown_sheet(sheet: &Sheet) -> String {
-    let users: Vec<String> = sheet.users.iter().map(shown_row).collect();
-    format!("numbers {:?} ssrcs {:?} users {users:?}", sheet.numbers, sheet.ssrcs)
-}
-
-/// A case for a person to read.
-pub fn shown_case(case: &Case) -> String {
-    match case {
-        Case::Read(text) => format!("read \"{}\"", text.escape_ascii()),
-        Case::Valid(sheet) => format!("valid {}", shown_sheet(sheet)),
-        Case::BySsrc(sheet, ssrc) => format!("by_ssrc {ssrc} in {}", shown_sheet(sheet)),
-        Case::ByUser(sheet, name) => format!("by_user \"{}\" in {}", name.escape_ascii(), shown_sheet(sheet)),
-        Case::UserId(name) => format!("is_user_id \"{}\"", name.escape_ascii()),
-        Case::Packets(sheet, packets) => {
-            let packets: Vec<String> = packets.iter().map(|packet| hex(packet)).collect();
-            format!("packets {} under numbers {:?} ssrcs {:?}", packets.join(" "), sheet.numbers, sheet.ssrcs)
-        }
-        Case::Fields(octets, places) => format!("fields at {places:?} of {}", hex(octets)),
-    }
-}
-
-fn hex(octets: &[u8]) -> String {
-    octets.iter().map(|octet| format!("{octet:02X}")).collect()
-}
-
-/// An answer's octets for a person to read, as the answer to such a case.
-pub fn shown_answer(case: &Case, body: &[u8]) -> String {
-    match case {
-        Case::Read(_) => shown_reading(body).unwrap_or(format!("{body:?}")),
-        Case::Packets(..) => format!("{:?}", body.chunks(4).map(number_of).collect::<Vec<u64>>()),
-        Case::Fields(..) => format!("{:?}", body.chunks(8).map(number_of).collect::<Vec<u64>>()),
-        _ => format!("{body:?}"),
-    }
-}
-
-fn number_of(octets: &[u8]) -> u64 {
-    octets.iter().fold(0, |number, octet| number << 8 | u64::from(*octet))
-}
-
-fn shown_reading(mut body: &[u8]) -> Option<String> {
-    let sheet = shown_sheet(&take_sheet(&mut body)?);
-    let (high, low) = (take_number(&mut body)?, take_number(&mut body)?);
-    let (refusal, line) = (take_number(&mut body)?, take_number(&mut body)?);
-    Some(format!("refusal {refusal} line {line} used {} {sheet}", (u64::from(high) << 32) + u64::from(low)))
 }

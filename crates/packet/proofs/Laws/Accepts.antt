@@ -8,6 +8,7 @@ use Prim.Native.Nat.{ℕ}
 use lib.Dec.{T, leb, eqb, eqb-refl}
 use borrow.Author.Tests.{not-true}
 use Rattle.octets.specs.Choice.{every}
+use Rattle.octets.proofs.First.{All, first-all}
 use Rattle.octets.proofs.Choice.{T-true, T-and-left, T-and-right, T-or-left, pick-cases}
 use Rattle.packet.specs.declared.field.Field.{Field}
 use Rattle.packet.specs.declared.kind.Form.the-variants.{Cause, Result}
@@ -15,10 +16,10 @@ use Rattle.packet.specs.declared.kind.Slot.{Slot}
 use Rattle.packet.specs.declared.kind.Numbers.{Numbers}
 use Rattle.packet.specs.Header.{sizeRight, headRight, ackAsked, ssrcIn}
 use Rattle.packet.specs.Walk.{fieldsOf, whole}
-use Rattle.packet.specs.Kind.{always, unlessGranted, Row, row, indicator, Kind, kinds, hasKind, kindAmong, kindOf, settled, slotsOf}
+use Rattle.packet.specs.Kind.{always, unlessGranted, Row, row, indicator, Kind, kinds, hasKind, kindOf, settled, slotsOf, mayLack, isResult, grants}
 use Rattle.packet.specs.Judge.{Held, fits, heldIn, fieldsWith, numberAt, grantIn, granted, filledIn, faultOf, heldBy}
 use Rattle.packet.specs.Reading.{reads, slotsIn, messageOf, readAs, readBy}
-use Rattle.packet.specs.Claims.{Headed, present, mayLack, AllowsAll, isResult, isOne, grants, AcceptsExactly}
+use Rattle.packet.specs.Claims.{Headed, present, AllowsAll, isOne, AcceptsExactly}
 use Rattle.packet.proofs.Laws.Allowed.{uses, orderly, arranged-used, present-own, Judged, Allowed, judged-allowed, allowed-judged}
 
 -- ---- Result
@@ -28,7 +29,7 @@ abbrev noResult : List Row → Bool
 noResult rows = every (λ (r : Row). not (isResult (r .form))) rows
 
 -- so none grants
-grants-none : (rows : List Row) (values : List Held) → T (noResult rows) → grants rows values ≡ false
+grants-none : (rows : List Row) (values : List Held) → T (noResult rows) → grants isOne rows values ≡ false
 unfolding grants
 grants-none [] values t = refl
 grants-none (r ∷ rows) [] t = refl
@@ -39,14 +40,14 @@ grants-none (r ∷ rows) (v ∷ values) t =
 
 -- the first Result decides: it is 1 exactly if the message's is
 result-decides : (p : List ℕ) (id : ℕ) (rows : List Row) → T (noResult rows) → (g : Bool) (values : List Held)
-    → Allowed p (row id Result always ∷ rows) g values → granted p id (fieldsOf p) ≡ grants (row id Result always ∷ rows) values
+    → Allowed p (row id Result always ∷ rows) g values → granted p id (fieldsOf p) ≡ grants isOne (row id Result always ∷ rows) values
 unfolding granted grantIn grants isResult isOne mayLack fits heldIn
 result-decides p id rows t g values a =
     let fs = fieldsOf p in
     by-first (a .0) values (a .1) (arranged-used (row id Result always ∷ rows) fs (present (a .0)) (a .2) id (T-or-left (eqb id id) (uses id rows) (eqb-refl id)))
   where
     by-first : (os : List (Option Field)) (vs : List Held) → AllowsAll p g (row id Result always ∷ rows) os vs
-        → fieldsWith id (fieldsOf p) ≡ fieldsWith id (present os) → granted p id (fieldsOf p) ≡ grants (row id Result always ∷ rows) vs
+        → fieldsWith id (fieldsOf p) ≡ fieldsWith id (present os) → granted p id (fieldsOf p) ≡ grants isOne (row id Result always ∷ rows) vs
     by-first [] vs x e = absurd x
     by-first (o ∷ os) [] x e = absurd x
     by-first (none ∷ os) (v ∷ vs) x e = absurd (x .0 .0)
@@ -56,26 +57,11 @@ result-decides p id rows t g values a =
 
 -- ---- the kinds of the table
 
--- what holds of each kind
-abbrev All {ℓ} : (Kind → Type ℓ) → List Kind → Type ℓ
-All P [] = Unit {ℓ}
-All P (k ∷ ks) = P k × All P ks
-
--- holds of the packet's
-kindAmong-all {ℓ} : (P : Kind → Type ℓ) (p : List ℕ) (k : Kind) (ks : List Kind) → All P ks → kindAmong p ks ≡ some k → P k
-unfolding kindAmong
-kindAmong-all P p k [] h e = absurd (Option·none-ne-some k e)
-kindAmong-all P p k (c ∷ ks) h e =
-    pick-cases (λ o. o ≡ some k → P k) (hasKind p c) (some c) (kindAmong p ks)
-    (λ t q. subst P (Option·some-injective c k q) (h .0))
-    (λ f q. kindAmong-all P p k ks (h .1) q)
-    e
-
 -- a kind's rows are in order, and its slots are those that the message's Result asks for
 abbrev KindRight : Numbers → List ℕ → Kind → Type 0
 KindRight n p k =
     T (orderly (k .rows))
-    × ((g : Bool) (values : List Held) → Allowed p (k .rows) g values → slotsIn n p k ≡ slotsOf (grants (k .rows) values) k)
+    × ((g : Bool) (values : List Held) → Allowed p (k .rows) g values → slotsIn n p k ≡ slotsOf (grants isOne (k .rows) values) k)
 
 -- only the slots of kind 2 depend on it
 kinds-right : (n : Numbers) (p : List ℕ) → All (KindRight n p) (kinds n)
@@ -110,7 +96,7 @@ kinds-right n p = (
 -- ---- reading
 
 -- past checks 1 to 4 it is the judging
-readBy-is : (n : Numbers) (p : List ℕ) (k : Kind) → Headed p → kindOf n p ≡ some k → T (whole p)
+pub readBy-is : (n : Numbers) (p : List ℕ) (k : Kind) → Headed p → kindOf n p ≡ some k → T (whole p)
     → readBy n p ≡ messageOf p (k .kind) (slotsIn n p k) (faultOf p (slotsIn n p k) (fieldsOf p))
 unfolding readBy readAs
 readBy-is n p k h e w = rw (T-true (sizeRight p) (h .0), T-true (headRight p) (h .1), e, T-true (whole p) w)
@@ -127,10 +113,10 @@ pub accepts-exactly : AcceptsExactly
 unfolding kindOf slotsIn slotsOf messageOf
 accepts-exactly n p k values h e w =
     let fs = fieldsOf p in
-    let grant = grants (k .rows) values in
+    let grant = grants isOne (k .rows) values in
     let slots = slotsIn n p k in
     let is = readBy-is n p k h e w in
-    let same : KindRight n p k = kindAmong-all (KindRight n p) p k (kinds n) (kinds-right n p) e in (
+    let same : KindRight n p k = first-all (hasKind p) k (KindRight n p) (kinds n) (kinds-right n p) e .0 in (
       λ r.
           let judged = messageOf-reads p (k .kind) slots (faultOf p slots fs) (k .kind) (ssrcIn p) (ackAsked p) values (sym is ∙ r) in
           let first = granted p (n .resultid) fs in

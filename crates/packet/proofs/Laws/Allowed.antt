@@ -17,9 +17,9 @@ use Rattle.packet.specs.declared.field.Field.{Field}
 use Rattle.packet.specs.declared.kind.Form.the-variants.{Barred}
 use Rattle.packet.specs.declared.kind.Slot.{Slot}
 use Rattle.packet.specs.Walk.{fieldsOf}
-use Rattle.packet.specs.Kind.{Need, always, maybe, unlessGranted, Row, row, settled}
+use Rattle.packet.specs.Kind.{Need, always, maybe, unlessGranted, Row, row, settled, mayLack, mayHave}
 use Rattle.packet.specs.Judge.{Held, fits, fieldsWith, slotsWith, Filled, filledBehind, filledIn, isAbsent, lacking, faultOf, heldBy}
-use Rattle.packet.specs.Claims.{useful, Arranged, present, mayLack, mayHave, Allows, AllowsAll}
+use Rattle.packet.specs.Claims.{useful, Arranged, present, Allows, AllowsAll}
 use Rattle.packet.proofs.Laws.Sound.{Sound, AllSound, fault-sound}
 use Rattle.packet.proofs.Laws.Judging.{fitting, fitting-length, slotsWith-own, slotsWith-other, inUse, slotsWith-none, faultOf-none, leftFor, every-leftFor, leftFor-snoc, filledBehind-cons}
 
@@ -74,7 +74,7 @@ orderly [] = true
 orderly (r ∷ rows) = (isAlways (r .need) || not (uses (r .id) rows)) && orderly rows
 
 -- the rows behind the first are in order
-orderly-rest : (r : Row) (rows : List Row) → T (orderly (r ∷ rows)) → T (orderly rows)
+pub orderly-rest : (r : Row) (rows : List Row) → T (orderly (r ∷ rows)) → T (orderly rows)
 orderly-rest r rows t = T-and-right (isAlways (r .need) || not (uses (r .id) rows)) (orderly rows) t
 
 -- ---- useful fields and fields present, ID by ID
@@ -249,7 +249,7 @@ module _ (p : List ℕ) (grant : Bool) where
       present-other id (r .id) o os (allows-fills r o v a .own) (both .0) ∙ ih (both .1))
 
   -- a row that may lack its field has no row with its ID behind it
-  orderly-lack : (r : Row) (rows : List Row) → T (orderly (r ∷ rows)) → T (mayLack grant (r .need)) → uses (r .id) rows ≡ false
+  pub orderly-lack : (r : Row) (rows : List Row) → T (orderly (r ∷ rows)) → T (mayLack grant (r .need)) → uses (r .id) rows ≡ false
   unfolding mayLack
   orderly-lack r rows t =
       by-need (r .need) (T-and-left (isAlways (r .need) || not (uses (r .id) rows)) (orderly rows) t)
@@ -260,7 +260,7 @@ module _ (p : List ℕ) (grant : Bool) where
       by-need unlessGranted u l = not-true (uses (r .id) rows) (T-true (not (uses (r .id) rows)) u)
 
   -- the first field with the row's ID is the row's, and the others are those of the rows behind it
-  first-allowed : (r : Row) (rows : List Row) (o : Option Field) (os : List (Option Field)) (v : Held) (values : List Held)
+  pub first-allowed : (r : Row) (rows : List Row) (o : Option Field) (os : List (Option Field)) (v : Held) (values : List Held)
       → T (orderly (r ∷ rows)) → Allows p grant r o v → AllowsAll p grant rows os values
       → (getElem? (fieldsWith (r .id) (present (o ∷ os))) 0 ≡ o) × (drop 1 (fieldsWith (r .id) (present (o ∷ os))) ≡ fieldsWith (r .id) (present os))
   unfolding present

@@ -11,7 +11,7 @@ use Rattle.octets.specs.Choice.{pick, same}
 use Rattle.octets.specs.Big.{bigAt, bigOf}
 use Rattle.packet.specs.declared.kind.Numbers.{Numbers}
 use Rattle.packet.specs.Header.{lettersIn, numberIn}
-use Rattle.packet.specs.Kind.{Kind, kinds, hasKind, kindAmong, kindOf, settled, slotsOf}
+use Rattle.packet.specs.Kind.{Kind, kinds, hasKind, kindOf, settled, slotsOf}
 use Rattle.packet.specs.Inner.{mcv2Kind, kindNumbered}
 use Rattle.octets.proofs.Choice.{NoneFrom, none-from, pick-same}
 use Rattle.octets.proofs.Big.{same-bigOf}
@@ -86,7 +86,7 @@ module _ (p : List ℕ) (octets : (i : ℕ) → getD p i 0 < 256) (long : 12 ≤
   kindOf-letters n =
       unfold mcv2Kind in
       simp (pick-under (kindNumbered n), pick-same)
-      (unfold kindOf kindAmong kinds hasKind kindNumbered bigOf in
+      (unfold kindOf kinds hasKind kindNumbered bigOf in
       rw (letters-same 0x4D435630 (lit< tt), letters-same 0x4D435631 (lit< tt), letters-same 0x4D435632 (lit< tt)))
 
 -- no kind of MCV2 is above 7

@@ -49,9 +49,15 @@ toWord-le : (n : ℕ) → n ≤ toWord n
 unfolding toWord
 toWord-le n = omega arith
 
-length-laid : (c : Content) → length (laid c) ≡ toWord (2 + length (c .value))
+pub length-laid : (c : Content) → length (laid c) ≡ toWord (2 + length (c .value))
 unfolding padFor
 length-laid c = rw laid-parts (simp (length-append, length-replicate) (omega (arith, toWord-le (2 + length (c .value)))))
+
+-- fields laid out one after another
+pub laidAll-append : (cs ds : List Content) → laidAll (cs ++ ds) ≡ laidAll cs ++ laidAll ds
+unfolding laidAll
+laidAll-append [] ds = refl
+laidAll-append (c ∷ cs) ds = rw (laidAll-append cs ds, append-assoc)
 
 -- ---- a right field is the layout of its content
 

@@ -335,7 +335,7 @@ module _ {t numbers : List ℕ} {users : List (List ℕ)} {total at k : ℕ} (i 
 
 -- ---- one turn of the pass
 
-userId-short : (name : List ℕ) → T (userId name) → length name ≤ longestName
+pub userId-short : (name : List ℕ) → T (userId name) → length name ≤ longestName
 unfolding userId
 userId-short name t =
     leb→le (length name) longestName

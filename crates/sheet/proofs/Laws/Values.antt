@@ -6,24 +6,25 @@ use mathlib.Core.List.{List, [], _++_, map}
 use Prim.Native.Nat.{ℕ, _+_, _-_, _≤_, _<_}
 use native.Mathlib.Numerals.{add-one}
 use native.Mathlib.Omega.{arith}
-use lib.ListN.{length, getD, take, drop, length-append, length-take, length-map, drop-of-length-le, List·getD-append, List·getD-map, List·getD-eq-default}
+use lib.ListN.{length, getD, take, drop, length-append, length-take, length-drop, length-map, take-append-drop, drop-of-length-le, List·getD-append, List·getD-map, List·getD-eq-default}
 use lib.Seq.{length-take-le, drop-cons, take-suc, take-take, getD-take, take-append-add, drop-append-add, getD-append-add, ext-getD}
 use lib.Dec.{T, eqb, eqb→eq}
 use Rattle.octets.specs.Choice.{same, some-of}
 use Rattle.octets.specs.Buffer.{zerosFrom, padded}
 use Rattle.octets.proofs.Choice.{T-true, true-T, T-false, false-T, T-and, T-and-left, T-and-right, same-eq, eq-same, le-or-lt}
-use Rattle.octets.proofs.Buffer.{zerosFrom-end, zerosFrom-step, getD-padded, length-padded, same-padded}
+use Rattle.octets.proofs.Buffer.{zerosFrom-end, zerosFrom-step, padded-full, getD-padded, length-padded, same-padded}
 use Rattle.octets.proofs.Lists.{map-take, getD-default}
 use Rattle.sheet.specs.declared.Sheet.{Sheet}
 use Rattle.sheet.specs.Table.{table, numberLines, seatsLine, mostSeats}
 use Rattle.sheet.specs.Line.{Entry}
 use Rattle.sheet.specs.Judge.{numbersIn, namesIn, goodNumber, goodName, userId, good, inTurn, whole, valid}
+use Rattle.sheet.specs.Promises.{numbers-of≡, are-valid≡, valid≡}
 use Rattle.sheet.specs.Value.{sheetBy, sheetFrom, sheetOf, rowOf, usersOf, numbersOf, nameOf, alone, seatEntries, entriesOf, validWith, validAlone}
 use Rattle.sheet.specs.Inner.{newName, goodRow}
 use Rattle.sheet.proofs.Laws.Entries.{at-inTurn, eq-whole, length-numbersIn, inTurn-at, good-name}
 use Rattle.sheet.proofs.Laws.Fresh.{seats-bound}
 use Rattle.sheet.proofs.Laws.Rows.{take-nameOf, goodRow-unused, goodRow-used}
-use Rattle.sheet.proofs.Laws.Laid.{numbersIn-entriesOf, namesIn-seats, nameOf-rowOf, valid-good, valid-entries, usersOf-entries, sheetFrom-numbers, laid-valid}
+use Rattle.sheet.proofs.Laws.Laid.{numbersOf-sheetFrom, numbersIn-entriesOf, namesIn-seats, nameOf-rowOf, valid-good, valid-entries, usersOf-entries, sheetFrom-numbers, laid-valid}
 use Rattle.sheet.proofs.Laws.Names.{no-name, seat-named, new-among}
 use Rattle.sheet.proofs.Laws.Claims.{valid-alone-exactly}
 
@@ -91,6 +92,22 @@ pub many-seats : (s : Sheet) → mostSeats < s .seats → validAlone s ≡ false
 many-seats s h = T-false (validAlone s) (λ t. let b : s .seats ≤ mostSeats = few-seats s t in omega arith)
 
 -- ---- a struct by its numbers and the SSRCs behind them
+
+-- it is the struct with those numbers ..
+pub sheetFrom-own : (s : Sheet) → length (s .ssrcs) ≡ mostSeats → sheetFrom (numbersOf s ++ s .ssrcs) ≡ s
+unfolding sheetFrom sheetBy numbersOf numberLines table
+sheetFrom-own s eight = sheetFrom-numbers s (s .ssrcs) (sym (padded-full mostSeats 0 (s .ssrcs) (omega arith)))
+
+-- .. so that it is judged by them
+pub judged-own : (s : Sheet) (ns : List ℕ) (r : Bool) → length (s .ssrcs) ≡ mostSeats → numbers-of≡ s ns → are-valid≡ ns r → valid≡ s r
+judged-own s ns r eight e j = j ∙ ap validAlone (ap sheetFrom e ∙ sheetFrom-own s eight)
+
+-- .. and as many numbers are those of the struct with them
+pub numbers-sheetFrom : (ns : List ℕ) → length ns ≡ numberLines + mostSeats → ns ≡ numbersOf (sheetFrom ns) ++ sheetFrom ns .ssrcs
+unfolding sheetFrom sheetBy
+numbers-sheetFrom ns long =
+    rw (numbersOf-sheetFrom ns (omega arith), padded-full mostSeats 0 (drop numberLines ns) (rw length-drop (omega arith)))
+    (sym (take-append-drop numberLines ns))
 
 module _ (s : Sheet) (ns : List ℕ) (e : ns ≡ numbersOf s ++ s .ssrcs) (long : length ns ≡ numberLines + mostSeats) where
   -- the last of the numbers says how many seats there are

@@ -12,7 +12,7 @@ use Rattle.octets.proofs.Choice.{T-true, true-T, T-false, false-T}
 use Rattle.sheet.specs.Table.{mostSeats}
 use Rattle.sheet.specs.Value.{validAlone}
 use Rattle.sheet.specs.Inner.{goodRow}
-use Rattle.sheet.proofs.Laws.Values.{valid-rows, rows-valid, not-alone}
+use Rattle.sheet.proofs.Laws.Values.{judged-own, valid-rows, rows-valid, not-alone}
 use Rattle.sheet.proofs.valid_with.Statement.{statement}
 use Rattle.sheet.proofs.valid_with.Tie as tie
 
@@ -28,8 +28,9 @@ unfolding mostSeats
 eight c = search needs
 
 -- whether the struct is a sheet's
-judged : (c : tie.After-are-good Inv-loop μ-loop) → c .are-good .result ≡ validAlone (c .before .before .before .args .sheet)
-judged c = c .are-good .ensures (c .before .before .before .args .sheet) (c .before .before .numbers-of .ensures)
+judged : (c : tie.After-are-valid Inv-loop μ-loop) → c .are-valid .result ≡ validAlone (c .before .before .before .args .sheet)
+unfolding mostSeats
+judged c = judged-own _ _ _ (search needs) (c .before .before .numbers-of .ensures) (c .are-valid .ensures)
 
 -- it is
 alone : (c : tie.After-rows Inv-loop μ-loop) → T (validAlone (c .before .before .before .before .before .args .sheet))
@@ -38,8 +39,8 @@ alone c = true-T _ (sym (judged (c .before .before)) ∙ not-false _ (c .before 
 numbers-of-requires : tie.Need-numbers-of-requires Inv-loop μ-loop
 numbers-of-requires c κs = search needs
 
-are-good-requires : tie.Need-are-good-requires Inv-loop μ-loop
-are-good-requires c κs = search needs
+are-valid-requires : tie.Need-are-valid-requires Inv-loop μ-loop
+are-valid-requires c κs = search needs
 
 returns : tie.Need-returns Inv-loop μ-loop
 returns c =
@@ -89,7 +90,7 @@ valid-with-spec =
     Inv-loop
     μ-loop
     numbers-of-requires
-    are-good-requires
+    are-valid-requires
     returns
     loop-holds
     is-good-row-requires

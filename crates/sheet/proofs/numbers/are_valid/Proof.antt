@@ -1,19 +1,17 @@
--- `sheet::number::are_good` meets its contract. The invariant: the numbers are a sheet's just if what is left from place k on is good.
+-- `sheet::numbers::are_valid` meets its contract. The invariant: the numbers are a sheet's just if what is left from place k on is good.
 -- Assumes nothing.
 use mathlib.Core.Path.{_≡_, refl, sym, _∙_}
 use mathlib.Core.Logic.{⊎-elim}
-use mathlib.Core.List.{_++_}
 use Prim.Native.Nat.{_+_, _-_, _≤_}
 use borrow.Author.Needs.{needs}
 use borrow.Author.Tests.{eq-eqb, ne-eqb, not-true, not-false}
 use native.Mathlib.Omega.{arith}
 use lib.ListN.{length, getD}
-use Rattle.sheet.specs.declared.Sheet.{Sheet}
 use Rattle.sheet.specs.Table.{table, numberLines, seatsLine, mostSeats}
-use Rattle.sheet.specs.Value.{numbersOf, validAlone}
-use Rattle.sheet.proofs.Laws.Values.{restGood, restGood-line, restGood-past, restGood-end, numbers-judged, numbers-many}
-use Rattle.sheet.proofs.number.are_good.Statement.{statement}
-use Rattle.sheet.proofs.number.are_good.Tie as tie
+use Rattle.sheet.specs.Value.{sheetFrom, validAlone}
+use Rattle.sheet.proofs.Laws.Values.{restGood, restGood-line, restGood-past, restGood-end, numbers-sheetFrom, numbers-judged, numbers-many}
+use Rattle.sheet.proofs.numbers.are_valid.Statement.{statement}
+use Rattle.sheet.proofs.numbers.are_valid.Tie as tie
 
 abbrev Inv-loop : tie.InvT-loop
 Inv-loop numbers all seats lines k₀ k = (k ≤ 19) × (restGood numbers lines 0 ≡ restGood numbers lines k)
@@ -26,17 +24,21 @@ long : (c : tie.After-all Inv-loop μ-loop) → length (c .before .args .numbers
 long c = c .all .given .0
 
 -- the struct is judged by what is left
-left : (c : tie.At-loop Inv-loop μ-loop) (s : Sheet)
-    → let ns = c .before .before .before .before .args .numbers .now in ns ≡ numbersOf s ++ s .ssrcs → validAlone s ≡ restGood ns (11 + getD ns 10 0) (c .loop .k)
+left : (c : tie.At-loop Inv-loop μ-loop)
+    → let ns = c .before .before .before .before .args .numbers .now in validAlone (sheetFrom ns) ≡ restGood ns (11 + getD ns 10 0) (c .loop .k)
 unfolding numberLines seatsLine table mostSeats
-left c s e = numbers-judged s _ e (long (c .before .before .before)) (c .before .if1 .left) ∙ c .loop .inv .1
+left c =
+    let n = long (c .before .before .before) in
+    numbers-judged (sheetFrom _) _ (numbers-sheetFrom _ n) n (c .before .if1 .left) ∙ c .loop .inv .1
 
 shared-slice-read-seats : tie.Need-shared-slice-read-seats Inv-loop μ-loop
 shared-slice-read-seats c = omega (arith, long (c .before))
 
 returns : tie.Need-returns Inv-loop μ-loop
 unfolding numberLines seatsLine table mostSeats
-returns c s e = sym (numbers-many s _ e (long (c .before .before)) (c .if1 .taken))
+returns c =
+    let n = long (c .before .before) in
+    sym (numbers-many (sheetFrom _) _ (numbers-sheetFrom _ n) n (c .if1 .taken))
 
 cast-lines : tie.Need-cast-lines Inv-loop μ-loop
 cast-lines c = search needs
@@ -61,17 +63,17 @@ is-good-number-requires : tie.Need-is-good-number-requires Inv-loop μ-loop
 is-good-number-requires c κs = search needs
 
 returns-2 : tie.Need-returns-2 Inv-loop μ-loop
-returns-2 c s e =
+returns-2 c =
     let at-loop = c .before .before .before .before .before in
     let n = long (at-loop .before .before .before) in
-    sym (left at-loop s e ∙ (restGood-line _ _ (at-loop .loop .k) (c .before .before .if2 .taken) (omega arith)
+    sym (left at-loop ∙ (restGood-line _ _ (at-loop .loop .k) (c .before .before .if2 .taken) (omega arith)
     ∙ rw (sym (c .before .is-good-number .ensures) ∙ not-true _ (c .if3 .taken))))
 
 returns-3 : tie.Need-returns-3 Inv-loop μ-loop
-returns-3 c s e =
+returns-3 c =
     let at-loop = c .before .before .before .before in
     let n = long (at-loop .before .before .before) in
-    sym (left at-loop s e ∙ (restGood-past _ _ (at-loop .loop .k) (c .before .if2 .left) (omega arith) ∙ rw (ne-eqb _ _ (c .if4 .taken))))
+    sym (left at-loop ∙ (restGood-past _ _ (at-loop .loop .k) (c .before .if2 .left) (omega arith) ∙ rw (ne-eqb _ _ (c .if4 .taken))))
 
 add-k : tie.Need-add-k Inv-loop μ-loop
 add-k c = search needs
@@ -92,12 +94,12 @@ loop-again c =
     )
 
 returns-4 : tie.Need-returns-4 Inv-loop μ-loop
-returns-4 c s e =
+returns-4 c =
     let n = long (c .before .before .before .before) in
-    sym (left (c .before) s e ∙ restGood-end _ _ (c .before .loop .k) (omega arith) (omega arith))
+    sym (left (c .before) ∙ restGood-end _ _ (c .before .loop .k) (omega arith) (omega arith))
 
-pub are-good-spec : {M : Type 1} → statement M
-are-good-spec =
+pub are-valid-spec : {M : Type 1} → statement M
+are-valid-spec =
     tie.close
     (tie.spec
     Inv-loop

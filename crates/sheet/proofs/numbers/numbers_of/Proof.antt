@@ -1,4 +1,4 @@
--- `sheet::number::numbers_of` meets its contract: eight SSRCs read one by one are the array itself (`listed-drop`).
+-- `sheet::numbers::numbers_of` meets its contract: eight SSRCs read one by one are the array itself (`listed-drop`).
 -- Assumes nothing.
 use mathlib.Core.Path.{ap}
 use mathlib.Core.List.{List, _++_}
@@ -6,8 +6,8 @@ use Prim.Native.Nat.{ℕ}
 use borrow.Author.Needs.{needs}
 use Rattle.octets.proofs.Lists.{listed-drop}
 use Rattle.sheet.specs.Value.{numbersOf}
-use Rattle.sheet.proofs.number.numbers_of.Statement.{statement}
-use Rattle.sheet.proofs.number.numbers_of.Tie as tie
+use Rattle.sheet.proofs.numbers.numbers_of.Statement.{statement}
+use Rattle.sheet.proofs.numbers.numbers_of.Tie as tie
 
 array-read-t5 : tie.Need-array-read-t5
 array-read-t5 c = search needs

@@ -1,0 +1,81 @@
+// A sheet's numbers in the order of its lines (document 01, "Call sheet"), the eight SSRCs behind them. A call with little stack lays
+// them out once, has them judged, and looks at them there.
+use super::MOST_SEATS;
+use super::Sheet;
+use super::number::is_good_number;
+use super::table::LINES;
+use super::table::NUMBER_LINES;
+use super::table::SEATS_LINE;
+ghost use Rattle.sheet.specs.Promises.{numbers-of≡, are-valid≡};
+
+pub type Numbers = [u32; LINES];
+
+// The lines of the messages' numbers, and of the Result's ID, counted from 0.
+pub const REQUEST: usize = 2;
+
+pub const RESPONSE: usize = 3;
+
+pub const END_REQUEST: usize = 4;
+
+pub const END_RESPONSE: usize = 5;
+
+pub const TX_END: usize = 6;
+
+pub const TX_END_RESPONSE: usize = 7;
+
+pub const ACK: usize = 8;
+
+pub const RESULT_ID: usize = 9;
+
+// Whether some sheet reads to the struct with these numbers.
+pub fn are_valid(numbers: &Numbers) -> bool
+    ensures { λ r. ⌜ are-valid≡ (now (numbers .entry)) r ⌝ }
+{
+    let all = &numbers[..];
+    let seats = all[SEATS_LINE];
+    if MOST_SEATS < seats {
+        return false;
+    }
+    let lines = NUMBER_LINES + (seats as usize);
+    let mut k = 0;
+    while k < LINES {
+        let n = all[k];
+        if k < lines {
+            if !is_good_number(numbers, k, n as u64) {
+                return false;
+            }
+        } else if n != 0 {
+            return false;
+        }
+        k += 1;
+    }
+    true
+}
+
+// The numbers of a sheet.
+pub fn numbers_of(sheet: Sheet) -> Numbers
+    ensures { λ r. ⌜ numbers-of≡ sheet r ⌝ }
+{
+    let s = sheet.ssrcs;
+    [
+        sheet.server,
+        sheet.limit,
+        sheet.request,
+        sheet.response,
+        sheet.endrequest,
+        sheet.endresponse,
+        sheet.txend,
+        sheet.txendresponse,
+        sheet.ack,
+        sheet.resultid,
+        sheet.seats,
+        s[0],
+        s[1],
+        s[2],
+        s[3],
+        s[4],
+        s[5],
+        s[6],
+        s[7],
+    ]
+}

@@ -1,0 +1,9 @@
+pub mod Parts
+pub mod Plans
+pub mod Kinds
+pub mod Front
+pub mod Grants
+pub mod Back
+pub mod Forth
+pub mod Canon
+pub mod Claims

@@ -1,0 +1,46 @@
+-- Canonical packets (document 01, "Packet": "no skipped field, no phrase, the order above"; padding and the second octet of Message
+-- Type zero), by a packet's octets and fields alone. Assumes nothing.
+use Prim.Native.Nat.{ℕ, _+_}
+use mathlib.Core.Bool.{Bool, true, false, _&&_}
+use mathlib.Core.List.{List, [], _∷_}
+use mathlib.Core.Option.{Option, none, some}
+use lib.ListN.{getD}
+use lib.Dec.{eqb}
+use Rattle.octets.specs.Choice.{pick, every}
+use Rattle.packet.specs.declared.field.Field.{Field}
+use Rattle.packet.specs.declared.kind.Numbers.{Numbers}
+use Rattle.packet.specs.declared.kind.Form.{Form}
+use Rattle.packet.specs.declared.kind.Form.the-variants.{UserId, Number, Cause, Result, MessageType, Barred}
+use Rattle.packet.specs.Walk.{zeros, padding, fieldsOf}
+use Rattle.packet.specs.Kind.{Row, Kind, kindOf}
+
+-- "no skipped field", "the order above": the fields stand in the order of the table's rows, and each has a row of its own
+unfoldable pub inOrder : List Row → List Field → Bool
+inOrder [] [] = true
+inOrder [] (f ∷ fs) = false
+inOrder (r ∷ rows) [] = true
+inOrder (r ∷ rows) (f ∷ fs) = pick (eqb (r .id) (f .id)) (inOrder rows fs) (inOrder rows (f ∷ fs))
+
+-- "no phrase" behind a cause; "a value octet, a zero octet"
+unfoldable pub bare : Form → List ℕ → Field → Bool
+bare UserId p f = true
+bare Number p f = true
+bare Cause p f = eqb (f .len) 2
+bare Result p f = true
+bare MessageType p f = eqb (getD p (f .at + 3) 0) 0
+bare Barred p f = true
+
+unfoldable pub bareIn : List Row → List ℕ → Field → Bool
+bareIn rows p f = every (λ (r : Row). pick (eqb (r .id) (f .id)) (bare (r .form) p f) true) rows
+
+unfoldable pub canonicalIn : List Row → List ℕ → Bool
+canonicalIn rows p =
+    inOrder rows (fieldsOf p) && every (λ (f : Field). bareIn rows p f && zeros (padding p (f .at))) (fieldsOf p)
+
+-- the rows are those of the packet's letters and number
+unfoldable pub canonical : Numbers → List ℕ → Bool
+canonical n p = by (kindOf n p)
+  where
+    by : Option Kind → Bool
+    by none = false
+    by (some k) = canonicalIn (k .rows) p

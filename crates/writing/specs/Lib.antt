@@ -1,0 +1,7 @@
+pub mod Meaning
+pub mod Packet
+pub mod Writing
+pub mod Canonical
+pub mod Inner
+pub mod Promises
+pub mod Claims

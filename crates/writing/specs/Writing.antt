@@ -1,0 +1,55 @@
+-- Writing a message (document 01, "Packet", and "Refusals": 12 line 0, 5, 11, in that order; "changes no lent octet"). Assumes nothing.
+use Prim.Native.Nat.{ℕ}
+use mathlib.Core.Bool.{Bool}
+use mathlib.Core.List.{List}
+use mathlib.Core.Option.{Option, none, some}
+use lib.ListN.{length}
+use lib.Dec.{leb}
+use Rattle.octets.specs.Choice.{pick}
+use Rattle.octets.specs.Buffer.{over}
+use Rattle.sheet.specs.declared.Sheet.{Sheet}
+use Rattle.sheet.specs.Value.{validAlone}
+use Rattle.packet.specs.Kind.{numbersOf}
+use Rattle.packet.specs.Reading.{Outcome}
+use Rattle.writing.specs.declared.Writing.{Writing}
+use Rattle.writing.specs.declared.Writing.the-variants.{Written, Refused}
+use Rattle.writing.specs.Meaning.{Meaning, meaning}
+use Rattle.writing.specs.Packet.{packetOf}
+
+-- a packet to put into the buffer, or a refusal's number and place
+pub data Made : Type 0 where
+  made : List ℕ → Made
+  refused : ℕ → ℕ → Made
+
+-- "11: output shorter than the packet"; "5: .. a message to write that no packet reads to"
+unfoldable pub roomFor : ℕ → Option (List ℕ) → Made
+roomFor room none = refused 5 0
+roomFor room (some p) = pick (leb (length p) room) (made p) (refused 11 0)
+
+unfoldable pub packetFor : Sheet → Option Meaning → Option (List ℕ)
+packetFor s none = none
+packetFor s (some m) = packetOf (numbersOf s) m
+
+-- a message with the octets its names lie in, and the buffer's length
+unfoldable pub writeOf : Sheet → Outcome → List ℕ → ℕ → Made
+writeOf s message names room = pick (validAlone s) (roomFor room (packetFor s (meaning names message))) (refused 12 0)
+
+-- ---- what is answered, and what the buffer holds
+
+-- "the number of octets written", or a refusal
+pub data Said : Type 0 where
+  wrote : ℕ → Said
+  refusedWith : ℕ → ℕ → Said
+
+unfoldable pub said : Made → Said
+said (made p) = wrote (length p)
+said (refused number at) = refusedWith number at
+
+abbrev pub writingSaid : Writing → Said
+writingSaid (Written octets) = wrote octets
+writingSaid (Refused r) = refusedWith (r .number) (r .at)
+
+-- "leaves octets past the packet's end alone"; a refusal "changes no lent octet"
+unfoldable pub after : Made → List ℕ → List ℕ
+after (made p) out = over p out
+after (refused number at) out = out

@@ -1,0 +1,89 @@
+// The fields of a packet, put into the part of a buffer that starts at octet 12 (document 01, "Packet").
+use super::parts::Part;
+use super::parts::Plan;
+ghost use mathlib.Core.Path.{_≡_};
+ghost use Prim.Native.Nat.{_+_, _-_, _≤_};
+ghost use lib.Dec.{T};
+ghost use lib.ListN.{length, replicate};
+ghost use Rattle.octets.specs.Big.{bigOf};
+ghost use Rattle.octets.specs.Buffer.{over, putAt};
+ghost use Rattle.packet.specs.Layout.{laid};
+ghost use Rattle.packet.specs.Walk.{toWord};
+ghost use Rattle.writing.specs.Inner.{userContent, partOctets, partRight, partSize, planOctets, planRight, planSize};
+
+// "User ID (6)"; the Source ID of a receive media request has the same.
+const USER_ID: u8 = 6;
+
+// Puts octets at a place.
+fn put_octets(s: &mut [u8], at: usize, octets: &[u8])
+    requires { ⌜ at + length (now octets) ≤ length (now s) ⌝ }
+    ensures { λ _. ⌜ now (s .exit) ≡ putAt (now (s .entry)) at (now (octets .entry)) ⌝ }
+{
+    let mut i = 0;
+    while i < octets.len() {
+        s[at + i] = octets[i];
+        i += 1;
+    }
+}
+
+// Puts zeros from a place up to another.
+fn put_zeros(s: &mut [u8], at: usize, end: usize)
+    requires { ⌜ (at ≤ end) × (end ≤ length (now s)) ⌝ }
+    ensures { λ _. ⌜ now (s .exit) ≡ putAt (now (s .entry)) at (replicate (end - at) 0) ⌝ }
+{
+    let mut i = at;
+    while i < end {
+        s[i] = 0;
+        i += 1;
+    }
+}
+
+// Puts a field that fills a word, and gives the place past it.
+fn put_word(s: &mut [u8], at: usize, word: u32) -> usize
+    requires { ⌜ at + 4 ≤ length (now s) ⌝ }
+    ensures { λ r. ⌜ (now (s .exit) ≡ putAt (now (s .entry)) at (bigOf 4 word)) × (r ≡ at + 4) ⌝ }
+{
+    octets::put_u32(s, at, word);
+    at + 4
+}
+
+// Puts a User ID and its padding, and gives the place past them.
+fn put_user(s: &mut [u8], at: usize, user: &[u8]) -> usize
+    requires { ⌜ (length (now user) ≤ 60) × (at + toWord (2 + length (now user)) ≤ length (now s)) ⌝ }
+    ensures { λ r. ⌜ (now (s .exit) ≡ putAt (now (s .entry)) at (laid (userContent (now (user .entry))))) × (r ≡ at + toWord (2 + length (now (user .entry)))) ⌝ }
+{
+    let next = at + (2 + user.len() + 3) / 4 * 4;
+    s[at] = USER_ID;
+    s[at + 1] = user.len() as u8;
+    put_octets(s, at + 2, user);
+    put_zeros(s, at + 2 + user.len(), next);
+    next
+}
+
+// Puts a field, and gives the place past it.
+fn put_part(s: &mut [u8], at: usize, part: Part, names: &[u8]) -> usize
+    requires { ⌜ T (partRight (now names) part) × (at + partSize part ≤ length (now s)) ⌝ }
+    ensures { λ r. ⌜ (now (s .exit) ≡ putAt (now (s .entry)) at (partOctets (now (names .entry)) part)) × (r ≡ at + partSize part) ⌝ }
+{
+    match part {
+        Part::Absent => at,
+        Part::Word(word) => put_word(s, at, word),
+        Part::Named(name) => {
+            let from = name.at as usize;
+            put_user(s, at, &names[from..from + (name.len as usize)])
+        }
+    }
+}
+
+// Puts the fields, one after another.
+pub fn put_fields(s: &mut [u8], plan: Plan, names: &[u8])
+    requires { ⌜ T (planRight (now names) plan) × (planSize plan ≤ length (now s)) ⌝ }
+    ensures { λ _. ⌜ now (s .exit) ≡ over (planOctets (now (names .entry)) plan) (now (s .entry)) ⌝ }
+{
+    let first = plan.first;
+    let second = plan.second;
+    let third = plan.third;
+    let at = put_part(s, 0, first, names);
+    let at = put_part(s, at, second, names);
+    put_part(s, at, third, names);
+}

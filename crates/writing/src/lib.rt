@@ -1,0 +1,55 @@
+// A message written as an RTCP APP packet of MCVideo (document 01, "Packet"; RFC 3550, 6.7).
+mod fields;
+mod front;
+mod parts;
+
+use packet::Message;
+use parts::Plan;
+use sheet::Refusal;
+use sheet::Sheet;
+ghost use mathlib.Core.Path.{_≡_};
+ghost use lib.ListN.{length};
+ghost use Rattle.writing.specs.Writing.{refusedWith, roomFor, said, writingSaid, after};
+ghost use Rattle.writing.specs.Inner.{planned};
+ghost use Rattle.writing.specs.Promises.{write≡};
+
+// How many octets were written, or why none.
+pub enum Writing {
+    Written(usize),
+    Refused(Refusal),
+}
+
+// A refusal by its number alone.
+fn refused(number: u32) -> Writing
+    ensures { λ r. ⌜ writingSaid r ≡ refusedWith number 0 ⌝ }
+{
+    Writing::Refused(Refusal { number, at: 0 })
+}
+
+// Writes what was planned, or 5 or 11. Everything is checked before the first store.
+fn write_plan(plan: Plan, names: &[u8], out: &mut [u8]) -> Writing
+    ensures { λ r. ⌜ (writingSaid r ≡ said (roomFor (length (now (out .entry))) (planned (now (names .entry)) plan)))
+        × (now (out .exit) ≡ after (roomFor (length (now (out .entry))) (planned (now (names .entry)) plan)) (now (out .entry))) ⌝ }
+{
+    if !parts::are_right(plan, names) {
+        return refused(5);
+    }
+    let size = front::FIRST_FIELD + parts::size_of(plan);
+    if out.len() < size {
+        return refused(11);
+    }
+    front::put_header(out, plan, size);
+    fields::put_fields(&mut out[front::FIRST_FIELD..], plan, names);
+    Writing::Written(size)
+}
+
+// Writes a message whose names lie in `names` into the front of `out`: how many octets, or 12 line 0, 5 or 11, checked in that order.
+pub fn write(sheet: Sheet, message: Message, names: &[u8], out: &mut [u8]) -> Writing
+    ensures { λ r. ⌜ write≡ sheet message (now (names .entry)) (now (out .entry)) r (now (out .exit)) ⌝ }
+{
+    let numbers = sheet::numbers::numbers_of(sheet);
+    if !sheet::numbers::are_valid(&numbers) {
+        return refused(12);
+    }
+    write_plan(parts::plan_of(&numbers, message), names, out)
+}
