@@ -1,6 +1,6 @@
 -- Laws of a lent buffer that is overwritten from its front, or at a place: what comes after is put where the last put ended.
 -- Assumes nothing.
-use mathlib.Core.Path.{_≡_, refl, sym, _∙_}
+use mathlib.Core.Path.{_≡_, refl, sym, ap, _∙_}
 use mathlib.Core.Logic.{⊎-elim}
 use Prim.Native.Nat.{ℕ, zero, suc, _+_, _-_, _/_, _%_, _^_, _≤_, _<_}
 use native.Mathlib.Nat.{zero-add, add-zero, add-assoc, sub-zero, add-sub-of-le, sub-eq-zero-of-le}
@@ -9,7 +9,7 @@ use native.Mathlib.Omega.{arith}
 use mathlib.Core.Bool.{_&&_}
 use mathlib.Core.List.{List, [], _∷_, _++_, append-nil, append-assoc}
 use lib.ListN.{length, getD, set, take, drop, replicate, take-append-drop, length-append, length-drop, length-take, length-set, length-replicate, drop-of-length-le, List·getD-eq-default, List·getD-append}
-use lib.Seq.{take-all, take-append-seam, take-suc, drop-append-seam, set-append-seam, drop-append-add, drop-drop, drop-cons, set-split, set-out, length-take-le, take-at, drop-at, set-append-left, getD-drop, getD-take, ext-getD}
+use lib.Seq.{take-all, take-take, take-append-seam, take-suc, drop-append-seam, set-append-seam, drop-append-add, drop-append-le, drop-drop, drop-cons, set-split, set-out, length-take-le, take-at, drop-at, set-append-left, getD-drop, getD-take, ext-getD}
 use lib.Dec.{T, eqb, eqb→eq}
 use borrow.Author.Tests.{le-leb, lt-leb}
 use Rattle.octets.specs.Choice.{same}
@@ -150,6 +150,23 @@ pub putAt-pair : (s : List ℕ) (at x y : ℕ) (xs : List ℕ) → at + 2 + leng
     → putAt (set (set s at x) (at + 1) y) (at + 2) xs ≡ putAt s at (x ∷ y ∷ xs)
 putAt-pair s at x y xs h =
     rw (← putAt-one s at x, set-putAt s at (x ∷ []) y (omega arith)) (putAt-then s at (x ∷ y ∷ []) xs h)
+
+-- octets put over the front of those that were put before: what they leave of them stands behind
+pub putAt-under : (s : List ℕ) (at k : ℕ) (xs zs : List ℕ) → k ≤ length xs → length xs ≤ k + length zs → at + k + length zs ≤ length s
+    → putAt (putAt s (at + k) zs) at xs ≡ putAt s at (xs ++ drop (length xs - k) zs)
+putAt-under s at k xs zs h l room =
+    let t = putAt s (at + k) zs in
+    let rest = drop (at + k + length zs) s in
+    let n = length xs - k in
+    let end : at + length (xs ++ drop n zs) ≡ at + k + length zs = simp (length-append, length-drop) (omega arith) in
+    let front : take at t ≡ take at s =
+    sym (take-take at (at + k) t (omega arith)) ∙ (ap (take at) (take-putAt s (at + k) zs) ∙ take-take at (at + k) s (omega arith)) in
+    let from : drop (at + k) t ≡ zs ++ rest =
+    rw (putAt-fits s (at + k) zs room, append-assoc) (drop-at (take (at + k) s) (zs ++ rest) (at + k) (length-take-le (at + k) s (omega arith))) in
+    let behind : drop (at + length xs) t ≡ drop n zs ++ rest =
+    ap (λ (i : ℕ). drop i t) (let e : at + length xs ≡ at + k + n = omega arith in e) ∙ (sym (drop-drop n (at + k) t) ∙ (ap (drop n) from ∙ drop-append-le n zs rest (omega arith))) in
+    rw (putAt-fits t at xs (rw length-putAt (omega arith)), front, behind, putAt-fits s at (xs ++ drop n zs) (omega arith), end)
+    (simp append-assoc)
 
 -- a buffer overwritten from its front has the octets put at its start
 pub over-putAt : (xs s : List ℕ) → length xs ≤ length s → over xs s ≡ putAt s 0 xs

@@ -26,18 +26,6 @@ fn put_octets(s: &mut [u8], at: usize, octets: &[u8])
     }
 }
 
-// Puts zeros from a place up to another.
-fn put_zeros(s: &mut [u8], at: usize, end: usize)
-    requires { ⌜ (at ≤ end) × (end ≤ length (now s)) ⌝ }
-    ensures { λ _. ⌜ now (s .exit) ≡ putAt (now (s .entry)) at (replicate (end - at) 0) ⌝ }
-{
-    let mut i = at;
-    while i < end {
-        s[i] = 0;
-        i += 1;
-    }
-}
-
 // Puts a field that fills a word, and gives the place past it.
 fn put_word(s: &mut [u8], at: usize, word: u32) -> usize
     requires { ⌜ at + 4 ≤ length (now s) ⌝ }
@@ -47,17 +35,17 @@ fn put_word(s: &mut [u8], at: usize, word: u32) -> usize
     at + 4
 }
 
-// Puts a User ID and its padding, and gives the place past them.
+// Puts a User ID into a field whose last word is zeros already, and gives the place past it.
 fn put_user(s: &mut [u8], at: usize, user: &[u8]) -> usize
     requires { ⌜ (length (now user) ≤ 60) × (at + toWord (2 + length (now user)) ≤ length (now s)) ⌝ }
     ensures { λ r. ⌜ (now (s .exit) ≡ putAt (now (s .entry)) at (laid (userContent (now (user .entry))))) × (r ≡ at + toWord (2 + length (now (user .entry)))) ⌝ }
 {
-    let next = at + (2 + user.len() + 3) / 4 * 4;
+    let size = (2 + user.len() + 3) / 4 * 4;
+    octets::put_u32(s, at + size - 4, 0);
     s[at] = USER_ID;
     s[at + 1] = user.len() as u8;
     put_octets(s, at + 2, user);
-    put_zeros(s, at + 2 + user.len(), next);
-    next
+    at + size
 }
 
 // Puts a field, and gives the place past it.

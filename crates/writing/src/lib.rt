@@ -1,6 +1,7 @@
 // A message written as an RTCP APP packet of MCVideo (document 01, "Packet"; RFC 3550, 6.7).
 mod fields;
 mod front;
+mod messages;
 mod parts;
 
 use packet::Message;
@@ -51,5 +52,5 @@ pub fn write(sheet: Sheet, message: Message, names: &[u8], out: &mut [u8]) -> Wr
     if !sheet::numbers::are_valid(&numbers) {
         return refused(12);
     }
-    write_plan(parts::plan_of(&numbers, message), names, out)
+    write_plan(messages::plan_of(&numbers, message), names, out)
 }

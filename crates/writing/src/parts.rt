@@ -1,27 +1,11 @@
-// What a message is as a packet, before any of it is put: the header's values, and the fields in the order written (document 01, "Packet").
-use packet::Head;
-use packet::Indicator;
-use packet::Message;
+// The fields to be written, and the header's values beside them: whether some packet has them, and how many octets they take.
 use packet::Name;
-use packet::Verdict;
-use sheet::numbers::ACK;
-use sheet::numbers::END_REQUEST;
-use sheet::numbers::END_RESPONSE;
-use sheet::numbers::Numbers;
-use sheet::numbers::REQUEST;
-use sheet::numbers::RESPONSE;
-use sheet::numbers::RESULT_ID;
-use sheet::numbers::TX_END;
-use sheet::numbers::TX_END_RESPONSE;
 use sheet::user::is_user_id;
 ghost use mathlib.Core.Path.{_≡_};
 ghost use Prim.Native.Nat.{_<_};
-ghost use lib.Dec.{T};
-ghost use Rattle.sheet.specs.Value.{sheetFrom, validAlone};
 ghost use Rattle.packet.specs.Message.{nameSaid};
 ghost use Rattle.packet.specs.Claims.{nameRight};
-ghost use Rattle.writing.specs.Packet.{firstOctet};
-ghost use Rattle.writing.specs.Inner.{numberPart, indicatorPart, resultPart, causePart, planWith, planFor, indicatorWithin, verdictWithin, inWidth, partRight, partSize, planRight, planSize};
+ghost use Rattle.writing.specs.Inner.{partRight, partSize, planRight, planSize};
 
 // A field to be written: none, one that fills a word, or a User ID.
 pub enum Part {
@@ -40,177 +24,16 @@ pub struct Plan {
     pub third: Part,
 }
 
-// The letters "MCV0", as one number.
-const MCV0: u32 = 0x4D435630;
-
-// The letters "MCV1".
-const MCV1: u32 = 0x4D435631;
-
-// The letters "MCV2".
-const MCV2: u32 = 0x4D435632;
-
-// "Reject Cause (2)".
-const REJECT_CAUSE: u32 = 2;
-
-// "Source (10)".
-const SOURCE: u32 = 10;
-
-// "Message Type (12)".
-const MESSAGE_TYPE: u32 = 12;
-
-// "Indicator (13)".
-const INDICATOR: u32 = 13;
-
-// A field with a number: ID octet, length octet 2 and the number are one word.
-fn numbered(id: u32, number: u16) -> Part
-    requires { ⌜ id < 256 ⌝ }
-    ensures { λ r. ⌜ r ≡ numberPart id number ⌝ }
+// Whether a name's place lies in `names`, and a User ID stands there.
+fn is_name_right(name: Name, names: &[u8]) -> bool
+    ensures { λ r. ⌜ r ≡ nameRight (now (names .entry)) (nameSaid name) ⌝ }
 {
-    Part::Word(id * 0x1000000 + 0x20000 + (number as u32))
-}
-
-// The Indicator, where there is one.
-fn indicator_part(indicator: Indicator) -> Part
-    ensures { λ r. ⌜ (r ≡ indicatorPart indicator) × T (indicatorWithin indicator) ⌝ }
-{
-    match indicator {
-        Indicator::Absent => Part::Absent,
-        Indicator::Given(number) => numbered(INDICATOR, number),
+    let at = name.at as usize;
+    let end = at + (name.len as usize);
+    if names.len() < end {
+        return false;
     }
-}
-
-// The Result, whose ID is the sheet's.
-fn result_part(id: u32, verdict: Verdict) -> Part
-    requires { ⌜ id < 256 ⌝ }
-    ensures { λ r. ⌜ r ≡ resultPart id verdict ⌝ }
-{
-    match verdict {
-        Verdict::Granted => numbered(id, 1),
-        Verdict::Rejected(_) => numbered(id, 0),
-    }
-}
-
-// The Reject Cause, which stands beside Result 0 alone.
-fn cause_part(verdict: Verdict) -> Part
-    ensures { λ r. ⌜ (r ≡ causePart verdict) × T (verdictWithin verdict) ⌝ }
-{
-    match verdict {
-        Verdict::Granted => Part::Absent,
-        Verdict::Rejected(cause) => numbered(REJECT_CAUSE, cause),
-    }
-}
-
-// Version 2, padding bit 0, the bit that asks for an Ack, and the message's number.
-fn start_of(ack: bool, number: u32) -> u8
-    requires { ⌜ number < 16 ⌝ }
-    ensures { λ r. ⌜ r ≡ firstOctet ack number ⌝ }
-{
-    if ack {
-        144 + (number as u8)
-    } else {
-        128 + (number as u8)
-    }
-}
-
-// A plan with these parts.
-fn plan_with(head: Head, letters: u32, number: u32, first: Part, second: Part, third: Part) -> Plan
-    requires { ⌜ number < 16 ⌝ }
-    ensures { λ r. ⌜ r ≡ planWith head letters number first second third ⌝ }
-{
-    Plan {
-        start: start_of(head.ack, number),
-        letters,
-        ssrc: head.ssrc,
-        first,
-        second,
-        third,
-    }
-}
-
-// The plan of a message under a sheet's numbers.
-pub fn plan_of(numbers: &Numbers, message: Message) -> Plan
-    requires { ⌜ T (validAlone (sheetFrom (now numbers))) ⌝ }
-    ensures { λ r. ⌜ (r ≡ planFor (sheetFrom (now (numbers .entry))) message) × T (inWidth message) ⌝ }
-{
-    match message {
-        Message::ReceiveRequest {
-            head,
-            user,
-            source,
-            indicator,
-        } => plan_with(
-            head,
-            MCV0,
-            numbers[REQUEST],
-            Part::Named(user),
-            Part::Named(source),
-            indicator_part(indicator),
-        ),
-        Message::ReceiveResponse {
-            head,
-            verdict,
-            indicator,
-        } => plan_with(
-            head,
-            MCV1,
-            numbers[RESPONSE],
-            result_part(numbers[RESULT_ID], verdict),
-            cause_part(verdict),
-            indicator_part(indicator),
-        ),
-        Message::EndRequest {
-            head,
-            transmitter,
-            indicator,
-        } => plan_with(
-            head,
-            MCV2,
-            numbers[END_REQUEST],
-            Part::Named(transmitter),
-            indicator_part(indicator),
-            Part::Absent,
-        ),
-        Message::EndResponse { head, transmitter } => plan_with(
-            head,
-            MCV2,
-            numbers[END_RESPONSE],
-            Part::Named(transmitter),
-            Part::Absent,
-            Part::Absent,
-        ),
-        Message::TransmissionEnd {
-            head,
-            cause,
-            indicator,
-        } => plan_with(
-            head,
-            MCV2,
-            numbers[TX_END],
-            numbered(REJECT_CAUSE, cause),
-            indicator_part(indicator),
-            Part::Absent,
-        ),
-        Message::TransmissionEndResponse { head } => plan_with(
-            head,
-            MCV2,
-            numbers[TX_END_RESPONSE],
-            Part::Absent,
-            Part::Absent,
-            Part::Absent,
-        ),
-        Message::Ack {
-            head,
-            source,
-            about,
-        } => plan_with(
-            head,
-            MCV2,
-            numbers[ACK],
-            numbered(SOURCE, source),
-            numbered(MESSAGE_TYPE, (about as u16) * 256),
-            Part::Absent,
-        ),
-    }
+    is_user_id(&names[at..end])
 }
 
 // Whether some packet has the field: a name's place lies in `names`, and a User ID stands there.
@@ -222,18 +45,6 @@ fn is_right(part: Part, names: &[u8]) -> bool
         Part::Word(_) => true,
         Part::Named(name) => is_name_right(name, names),
     }
-}
-
-// Whether a name's place lies in `names`, and a User ID stands there.
-fn is_name_right(name: Name, names: &[u8]) -> bool
-    ensures { λ r. ⌜ r ≡ nameRight (now (names .entry)) (nameSaid name) ⌝ }
-{
-    let at = name.at as usize;
-    let end = at + (name.len as usize);
-    if names.len() < end {
-        return false;
-    }
-    is_user_id(&names[at..end])
 }
 
 // Whether some packet has the fields.

@@ -1,11 +1,11 @@
--- `writing::parts::cause_part` meets its contract: the cause of a rejection, a 16-bit number, and none of a grant. Assumes nothing.
+-- `writing::messages::cause_part` meets its contract: the cause of a rejection, a 16-bit number, and none of a grant. Assumes nothing.
 use mathlib.Core.Path.{refl}
 use Prim.Native.Nat.{_^_}
 use native.Mathlib.Omega.{arith}
 use borrow.Author.Needs.{needs}
 use lib.Dec.{lt→ltb}
-use Rattle.writing.proofs.parts.cause_part.Statement.{statement}
-use Rattle.writing.proofs.parts.cause_part.Tie as tie
+use Rattle.writing.proofs.messages.cause_part.Statement.{statement}
+use Rattle.writing.proofs.messages.cause_part.Tie as tie
 
 enum-told : tie.Need-enum-told
 enum-told c = search needs

@@ -1,7 +1,7 @@
--- `writing::parts::result_part` meets its contract: a grant is Result 1, a rejection Result 0. Assumes nothing.
+-- `writing::messages::result_part` meets its contract: a grant is Result 1, a rejection Result 0. Assumes nothing.
 use borrow.Author.Needs.{needs}
-use Rattle.writing.proofs.parts.result_part.Statement.{statement}
-use Rattle.writing.proofs.parts.result_part.Tie as tie
+use Rattle.writing.proofs.messages.result_part.Statement.{statement}
+use Rattle.writing.proofs.messages.result_part.Tie as tie
 
 enum-told : tie.Need-enum-told
 enum-told c = search needs

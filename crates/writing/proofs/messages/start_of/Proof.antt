@@ -1,8 +1,8 @@
--- `writing::parts::start_of` meets its contract: the bit that asks for an Ack is set, or it is not. Assumes nothing.
+-- `writing::messages::start_of` meets its contract: the bit that asks for an Ack is set, or it is not. Assumes nothing.
 use borrow.Author.Needs.{needs}
 use Rattle.writing.specs.Packet.{firstOctet}
-use Rattle.writing.proofs.parts.start_of.Statement.{statement}
-use Rattle.writing.proofs.parts.start_of.Tie as tie
+use Rattle.writing.proofs.messages.start_of.Statement.{statement}
+use Rattle.writing.proofs.messages.start_of.Tie as tie
 
 cast-result : tie.Need-cast-result
 cast-result c = search needs

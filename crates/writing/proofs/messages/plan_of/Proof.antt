@@ -1,4 +1,4 @@
--- `writing::parts::plan_of` meets its contract: message by message, under a sheet whose numbers are in their lines' bounds. Assumes nothing.
+-- `writing::messages::plan_of` meets its contract: message by message, under a sheet whose numbers are in their lines' bounds. Assumes nothing.
 use Prim.Native.Nat.{ℕ, _^_, _<_}
 use native.Mathlib.Omega.{arith}
 use mathlib.Core.Bool.{Bool, _&&_}
@@ -9,8 +9,8 @@ use Rattle.sheet.specs.Value.{sheetBy, sheetFrom}
 use Rattle.writing.specs.Packet.{within}
 use Rattle.writing.specs.Inner.{indicatorWithin, verdictWithin, inWidth}
 use Rattle.writing.proofs.Laws.Plans.{small}
-use Rattle.writing.proofs.parts.plan_of.Statement.{statement}
-use Rattle.writing.proofs.parts.plan_of.Tie as tie
+use Rattle.writing.proofs.messages.plan_of.Statement.{statement}
+use Rattle.writing.proofs.messages.plan_of.Tie as tie
 
 -- a number that goes into so many octets, and what else is asked
 within-and : (octets n : ℕ) (b : Bool) → n < 256 ^ octets → T b → T (within octets n && b)

@@ -1,11 +1,11 @@
--- `writing::parts::indicator_part` meets its contract: an Indicator that is given is a 16-bit number. Assumes nothing.
+-- `writing::messages::indicator_part` meets its contract: an Indicator that is given is a 16-bit number. Assumes nothing.
 use mathlib.Core.Path.{refl}
 use Prim.Native.Nat.{_^_}
 use native.Mathlib.Omega.{arith}
 use borrow.Author.Needs.{needs}
 use lib.Dec.{lt→ltb}
-use Rattle.writing.proofs.parts.indicator_part.Statement.{statement}
-use Rattle.writing.proofs.parts.indicator_part.Tie as tie
+use Rattle.writing.proofs.messages.indicator_part.Statement.{statement}
+use Rattle.writing.proofs.messages.indicator_part.Tie as tie
 
 enum-told : tie.Need-enum-told
 enum-told c = search needs

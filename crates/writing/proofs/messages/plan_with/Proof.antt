@@ -1,7 +1,7 @@
--- `writing::parts::plan_with` meets its contract: the first octet is `start_of`'s. Assumes nothing.
+-- `writing::messages::plan_with` meets its contract: the first octet is `start_of`'s. Assumes nothing.
 use borrow.Author.Needs.{needs}
-use Rattle.writing.proofs.parts.plan_with.Statement.{statement}
-use Rattle.writing.proofs.parts.plan_with.Tie as tie
+use Rattle.writing.proofs.messages.plan_with.Statement.{statement}
+use Rattle.writing.proofs.messages.plan_with.Tie as tie
 
 start-of-requires : tie.Need-start-of-requires
 start-of-requires c κs = search needs
