@@ -87,7 +87,7 @@ unfolding said after
 returns-2 c =
     let sized = c .before .before in
     let a = sized .before .before .before .before .before .args in
-    rw (no-room (now (a .names)) (a .plan) (right (sized .before)) (length (now (a .out))) (rw (sized .size-of .ensures .0) at (c .before .if2 .taken)))
+    rw (no-room (now (a .names)) (a .plan) (right (sized .before)) (length (now (a .out))) (omega (arith, sized .size-of .ensures .0)))
     (c .refused2 .ensures, refl)
 
 put-header-requires : tie.Need-put-header-requires

@@ -1,5 +1,9 @@
 -- `writing::parts::is_name_right` meets its contract: the place ends in `names`, and what stands there is a User ID. Assumes nothing.
+use Prim.Native.Nat.{_+_}
 use native.Mathlib.Nat.{add-sub-cancel-left}
+use native.Mathlib.Omega.{arith}
+use lib.ListN.{length}
+use denote.Ref.{now}
 use borrow.Author.Needs.{needs}
 use borrow.Author.Tests.{le-leb, lt-leb}
 use Rattle.packet.specs.Claims.{nameRight}
@@ -17,7 +21,9 @@ add-end c = search needs
 
 returns : tie.Need-returns
 unfolding nameRight
-returns c = rw (lt-leb _ _ (c .if1 .taken))
+returns c =
+    let a = c .before .before .before .before .args in
+    rw (lt-leb (a .name .at + a .name .len) (length (now (a .names))) (omega arith))
 
 sub-is-user-id : tie.Need-sub-is-user-id
 sub-is-user-id c = search needs
