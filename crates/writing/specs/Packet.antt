@@ -19,18 +19,18 @@ use Rattle.writing.specs.Meaning.{Value, nothing, numeral, spelt, nowher
 
 -- ---- which values a kind takes
 
--- a name, or a number, of which the test holds
-abbrev pub nameOf : (List ℕ → Bool) → Value → Bool
-nameOf p nothing = false
-nameOf p (numeral n) = false
-nameOf p (spelt xs) = p xs
-nameOf p nowhere = false
+-- a name of which the test holds; a number of which it does
+abbrev pub isName : (List ℕ → Bool) → Value → Bool
+isName p nothing = false
+isName p (numeral n) = false
+isName p (spelt xs) = p xs
+isName p nowhere = false
 
-abbrev pub numberOf : (ℕ → Bool) → Value → Bool
-numberOf p nothing = false
-numberOf p (numeral n) = p n
-numberOf p (spelt xs) = false
-numberOf p nowhere = false
+abbrev pub isNumber : (ℕ → Bool) → Value → Bool
+isNumber p nothing = false
+isNumber p (numeral n) = p n
+isNumber p (spelt xs) = false
+isNumber p nowhere = false
 
 -- a number that goes into so many octets
 abbrev pub within : ℕ → ℕ → Bool
@@ -39,11 +39,11 @@ within octets n = ltb n (256 ^ octets)
 -- "User ID (6): 1 to 60 octets, each 0x21 to 0x7E. Indicator (13), Source (10): length 2, any 16-bit number. Reject Cause (2): ..
 -- a 16-bit cause .. Result (ID from the sheet): length 2, 16-bit, 0 or 1. Message Type (12): length 2, a value octet, a zero octet"
 unfoldable pub holds : Form → Value → Bool
-holds UserId v = nameOf userId v
-holds Number v = numberOf (within 2) v
-holds Cause v = numberOf (within 2) v
-holds Result v = numberOf (λ (n : ℕ). leb n 1) v
-holds MessageType v = numberOf (within 1) v
+holds UserId v = isName userId v
+holds Number v = isNumber (within 2) v
+holds Cause v = isNumber (within 2) v
+holds Result v = isNumber (λ (n : ℕ). leb n 1) v
+holds MessageType v = isNumber (within 1) v
 holds Barred v = false
 
 unfoldable pub isNothing : Value → Bool
@@ -64,33 +64,33 @@ takesAll grant (r ∷ rows) (v ∷ values) = takes grant r v && takesAll grant r
 
 -- a Result that is 1
 unfoldable pub isOne : Value → Bool
-isOne v = numberOf (λ (n : ℕ). eqb n 1) v
+isOne v = isNumber (λ (n : ℕ). eqb n 1) v
 
 unfoldable pub writable : Kind → Meaning → Bool
 writable k m = within 4 (m .ssrc) && takesAll (grants isOne (k .rows) (m .values)) (k .rows) (m .values)
 
 -- ---- its octets
 
--- the name, and the number, of a value that has one
-abbrev pub nameIn : Value → List ℕ
-nameIn nothing = []
-nameIn (numeral n) = []
-nameIn (spelt xs) = xs
-nameIn nowhere = []
+-- the name that a value is, and the number
+abbrev pub nameHeld : Value → List ℕ
+nameHeld nothing = []
+nameHeld (numeral n) = []
+nameHeld (spelt xs) = xs
+nameHeld nowhere = []
 
-abbrev pub numberIn : Value → ℕ
-numberIn nothing = 0
-numberIn (numeral n) = n
-numberIn (spelt xs) = 0
-numberIn nowhere = 0
+abbrev pub numberHeld : Value → ℕ
+numberHeld nothing = 0
+numberHeld (numeral n) = n
+numberHeld (spelt xs) = 0
+numberHeld nowhere = 0
 
 -- "a 16-bit cause, then a phrase that is skipped; none is written"; "a value octet, a zero octet"
 unfoldable pub octetsFor : Form → Value → List ℕ
-octetsFor UserId v = nameIn v
-octetsFor Number v = bigOf 2 (numberIn v)
-octetsFor Cause v = bigOf 2 (numberIn v)
-octetsFor Result v = bigOf 2 (numberIn v)
-octetsFor MessageType v = numberIn v ∷ 0 ∷ []
+octetsFor UserId v = nameHeld v
+octetsFor Number v = bigOf 2 (numberHeld v)
+octetsFor Cause v = bigOf 2 (numberHeld v)
+octetsFor Result v = bigOf 2 (numberHeld v)
+octetsFor MessageType v = numberHeld v ∷ 0 ∷ []
 octetsFor Barred v = []
 
 -- the fields, "in the order written", without those that are absent

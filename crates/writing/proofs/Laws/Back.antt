@@ -39,7 +39,7 @@ use Rattle.packet.proofs.Laws.Layouts.{length-laid, laid-id, laid-len, laid-con
 use Rattle.packet.proofs.Laws.Allowed.{uses}
 use Rattle.packet.proofs.Laws.Accepts.{accepts-exactly}
 use Rattle.writing.specs.Meaning.{Value, nothing, numeral, spelt, nowhere, valueIn, Meaning, meaning}
-use Rattle.writing.specs.Packet.{nameOf, numberOf, numberIn, within, holds, isNothing, takes, takesAll, isOne, writable, octetsFor, contentsFor, headed, packetAs, kindWith, packetOf}
+use Rattle.writing.specs.Packet.{isName, isNumber, numberHeld, within, holds, isNothing, takes, takesAll, isOne, writable, octetsFor, contentsFor, headed, packetAs, kindWith, packetOf}
 use Rattle.writing.specs.Claims.{octets}
 use Rattle.writing.proofs.Laws.Kinds.{KindRight, kind-right, kind-found, kindWith-kind}
 use Rattle.writing.proofs.Laws.Grants.{grants-meant}
@@ -48,18 +48,18 @@ use Rattle.writing.proofs.Laws.Front.{Front, header-says, header-octets
 -- ---- what a form's values are
 
 -- what holds of each name of which a test does
-nameOf-ind {ℓ} : (P : Value → Type ℓ) (q : List ℕ → Bool) → ((xs : List ℕ) → T (q xs) → P (spelt xs)) → (v : Value) → T (nameOf q v) → P v
-nameOf-ind P q f nothing t = absurd t
-nameOf-ind P q f (numeral n) t = absurd t
-nameOf-ind P q f (spelt xs) t = f xs t
-nameOf-ind P q f nowhere t = absurd t
+isName-ind {ℓ} : (P : Value → Type ℓ) (q : List ℕ → Bool) → ((xs : List ℕ) → T (q xs) → P (spelt xs)) → (v : Value) → T (isName q v) → P v
+isName-ind P q f nothing t = absurd t
+isName-ind P q f (numeral n) t = absurd t
+isName-ind P q f (spelt xs) t = f xs t
+isName-ind P q f nowhere t = absurd t
 
 -- what holds of each number of which a test does
-numberOf-ind {ℓ} : (P : Value → Type ℓ) (q : ℕ → Bool) → ((n : ℕ) → T (q n) → P (numeral n)) → (v : Value) → T (numberOf q v) → P v
-numberOf-ind P q f nothing t = absurd t
-numberOf-ind P q f (numeral n) t = f n t
-numberOf-ind P q f (spelt xs) t = absurd t
-numberOf-ind P q f nowhere t = absurd t
+isNumber-ind {ℓ} : (P : Value → Type ℓ) (q : ℕ → Bool) → ((n : ℕ) → T (q n) → P (numeral n)) → (v : Value) → T (isNumber q v) → P v
+isNumber-ind P q f nothing t = absurd t
+isNumber-ind P q f (numeral n) t = f n t
+isNumber-ind P q f (spelt xs) t = absurd t
+isNumber-ind P q f nowhere t = absurd t
 
 -- an octet
 abbrev octet : ℕ → Bool
@@ -97,11 +97,11 @@ coded-type n t = record { short = omega arith; bytes = T-and (ltb n 256) true t 
 -- so is every value that a form holds
 coded : (form : Form) (v : Value) → T (holds form v) → Coded (octetsFor form v)
 unfolding holds octetsFor
-coded UserId v t = nameOf-ind (λ w. Coded (octetsFor UserId w)) userId coded-name v t
-coded Number v t = coded-number (numberIn v)
-coded Cause v t = coded-number (numberIn v)
-coded Result v t = coded-number (numberIn v)
-coded MessageType v t = numberOf-ind (λ w. Coded (octetsFor MessageType w)) (within 1) coded-type v t
+coded UserId v t = isName-ind (λ w. Coded (octetsFor UserId w)) userId coded-name v t
+coded Number v t = coded-number (numberHeld v)
+coded Cause v t = coded-number (numberHeld v)
+coded Result v t = coded-number (numberHeld v)
+coded MessageType v t = isNumber-ind (λ w. Coded (octetsFor MessageType w)) (within 1) coded-type v t
 coded Barred v t = absurd t
 
 -- ---- rows that take values
@@ -267,17 +267,17 @@ module _ (p : List ℕ) (at id : ℕ) (right : T (fieldRight p at)) (rest : List
 
   laid-means : (form : Form) (v : Value) → T (holds form v) → Back form v
   unfolding holds octetsFor fits heldIn valueIn
-  laid-means UserId v t = nameOf-ind (Back UserId) userId name-means v t
-  laid-means Number v t = numberOf-ind (Back Number) (within 2) (λ n u e. (rw (two-octets n e) tt, ap numeral (number-is n u e))) v t
-  laid-means Cause v t = numberOf-ind (Back Cause) (within 2) (λ n u e. (rw (two-octets n e) tt, ap numeral (number-is n u e))) v t
+  laid-means UserId v t = isName-ind (Back UserId) userId name-means v t
+  laid-means Number v t = isNumber-ind (Back Number) (within 2) (λ n u e. (rw (two-octets n e) tt, ap numeral (number-is n u e))) v t
+  laid-means Cause v t = isNumber-ind (Back Cause) (within 2) (λ n u e. (rw (two-octets n e) tt, ap numeral (number-is n u e))) v t
   laid-means Result v t =
-      numberOf-ind (Back Result) (λ (n : ℕ). leb n 1)
+      isNumber-ind (Back Result) (λ (n : ℕ). leb n 1)
       (λ n u e.
       let is = number-is n (lt→ltb n 65536 (let l : n ≤ 1 = leb→le n 1 u in omega arith)) e in
       (rw (is, two-octets n e) u, ap numeral is))
       v
       t
-  laid-means MessageType v t = numberOf-ind (Back MessageType) (within 1) type-means v t
+  laid-means MessageType v t = isNumber-ind (Back MessageType) (within 1) type-means v t
   laid-means Barred v t = absurd t
 
 -- ---- the fields, row by row

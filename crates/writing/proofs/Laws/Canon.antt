@@ -34,7 +34,7 @@ use Rattle.packet.proofs.Laws.Fields.{coded, coded-says, every-coded}
 use Rattle.packet.proofs.Laws.Layouts.{laid-once, walk-meets}
 use Rattle.packet.proofs.Laws.Allowed.{uses, orderly, orderly-rest, arranged-used, allowed-ind, orderly-lack, first-allowed}
 use Rattle.writing.specs.Meaning.{Value, valueIn, Meaning}
-use Rattle.writing.specs.Packet.{numberIn, isNothing, octetsFor, contentsFor, header, headed, kindWith, packetOf, packetAs}
+use Rattle.writing.specs.Packet.{numberHeld, isNothing, octetsFor, contentsFor, header, headed, kindWith, packetOf, packetAs}
 use Rattle.writing.specs.Canonical.{inOrder, bare, bareIn, canonicalIn, canonical}
 use Rattle.writing.specs.Claims.{octets, ReadsTo}
 use Rattle.writing.proofs.Laws.Kinds.{leads, gathered, kindWith-all, kind-right, kind-with}
@@ -242,9 +242,9 @@ module _ (p : List ℕ) where
   bare-as UserId by v f t c e = tt
   bare-as Number by v f t c e = tt
   bare-as Cause UserId v f t c e = absurd t
-  bare-as Cause Number v f t c e = two-long f (octetsFor Number v) c e (length-bigOf 2 (numberIn v))
-  bare-as Cause Cause v f t c e = two-long f (octetsFor Cause v) c e (length-bigOf 2 (numberIn v))
-  bare-as Cause Result v f t c e = two-long f (octetsFor Result v) c e (length-bigOf 2 (numberIn v))
+  bare-as Cause Number v f t c e = two-long f (octetsFor Number v) c e (length-bigOf 2 (numberHeld v))
+  bare-as Cause Cause v f t c e = two-long f (octetsFor Cause v) c e (length-bigOf 2 (numberHeld v))
+  bare-as Cause Result v f t c e = two-long f (octetsFor Result v) c e (length-bigOf 2 (numberHeld v))
   bare-as Cause MessageType v f t c e = two-long f (octetsFor MessageType v) c e refl
   bare-as Cause Barred v f t c e = absurd t
   bare-as Result by v f t c e = tt
