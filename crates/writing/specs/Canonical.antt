@@ -11,15 +11,8 @@ use Rattle.packet.specs.declared.field.Field.{Field}
 use Rattle.packet.specs.declared.kind.Numbers.{Numbers}
 use Rattle.packet.specs.declared.kind.Form.{Form}
 use Rattle.packet.specs.declared.kind.Form.the-variants.{UserId, Number, Cause, Result, MessageType, Barred}
-use Rattle.packet.specs.Walk.{zeros, padding, fieldsOf}
+use Rattle.packet.specs.Walk.{zeros, padding, fieldsOf, whole}
 use Rattle.packet.specs.Kind.{Row, Kind, kindOf}
-
--- "no skipped field", "the order above": the fields stand in the order of the table's rows, and each has a row of its own
-unfoldable pub inOrder : List Row → List Field → Bool
-inOrder [] [] = true
-inOrder [] (f ∷ fs) = false
-inOrder (r ∷ rows) [] = true
-inOrder (r ∷ rows) (f ∷ fs) = pick (eqb (r .id) (f .id)) (inOrder rows fs) (inOrder rows (f ∷ fs))
 
 -- "no phrase" behind a cause; "a value octet, a zero octet"
 unfoldable pub bare : Form → List ℕ → Field → Bool
@@ -30,12 +23,16 @@ bare Result p f = true
 bare MessageType p f = eqb (getD p (f .at + 3) 0) 0
 bare Barred p f = true
 
-unfoldable pub bareIn : List Row → List ℕ → Field → Bool
-bareIn rows p f = every (λ (r : Row). pick (eqb (r .id) (f .id)) (bare (r .form) p f) true) rows
+-- "no skipped field", "the order above": the fields stand in the order of the table's rows, and each has a row of its own, in whose form it is bare
+unfoldable pub inOrder : List ℕ → List Row → List Field → Bool
+inOrder p [] [] = true
+inOrder p [] (f ∷ fs) = false
+inOrder p (r ∷ rows) [] = true
+inOrder p (r ∷ rows) (f ∷ fs) = pick (eqb (r .id) (f .id)) (bare (r .form) p f && inOrder p rows fs) (inOrder p rows (f ∷ fs))
 
 unfoldable pub canonicalIn : List Row → List ℕ → Bool
 canonicalIn rows p =
-    inOrder rows (fieldsOf p) && every (λ (f : Field). bareIn rows p f && zeros (padding p (f .at))) (fieldsOf p)
+    whole p && (inOrder p rows (fieldsOf p) && every (λ (f : Field). zeros (padding p (f .at))) (fieldsOf p))
 
 -- the rows are those of the packet's letters and number
 unfoldable pub canonical : Numbers → List ℕ → Bool

@@ -4,7 +4,7 @@ use mathlib.Core.Logic.{_↔_}
 use Prim.Native.Nat.{ℕ, _≤_}
 use mathlib.Core.Bool.{Bool}
 use mathlib.Core.List.{List}
-use mathlib.Core.Option.{Option, some}
+use mathlib.Core.Option.{some}
 use lib.ListN.{length}
 use lib.Dec.{T, ltb}
 use Rattle.octets.specs.Choice.{every}
@@ -30,7 +30,7 @@ ReadsTo s p m = T (octets p) × (meaning p (readOf s p) ≡ some m)
 abbrev pub ReadsBack : Type 0
 ReadsBack =
     (s : Sheet) (message : Outcome) (names : List ℕ) (room : ℕ) (p : List ℕ) → writeOf s message names room ≡ made p
-    → T (octets p) × (meaning p (readOf s p) ≡ meaning names message)
+    → T (octets p) × (meaning p (readOf s p) ≡ meaning names message) × T (canonical (numbersOf s) p)
 
 -- ---- what is writable
 
@@ -38,7 +38,7 @@ ReadsBack =
 abbrev pub WritableExactly : Type 0
 WritableExactly =
     (s : Sheet) → T (validAlone s) → (message : Outcome) (names : List ℕ) (m : Meaning) → meaning names message ≡ some m
-    → ((room : ℕ) × (p : List ℕ) × (writeOf s message names room ≡ made p)) ↔ ((p : List ℕ) × ReadsTo s p m)
+    → ((p : List ℕ) × ((room : ℕ) → length p ≤ room → writeOf s message names room ≡ made p)) ↔ ((p : List ℕ) × ReadsTo s p m)
 
 -- .. and 5 is given exactly if none does, whatever the room.
 abbrev pub FiveExactly : Type 0
@@ -68,5 +68,5 @@ CanonicalOnce =
 -- Read and written once more, it is itself: twice does nothing more.
 abbrev pub Twice : Type 0
 Twice =
-    (s : Sheet) (p q : List ℕ) (m : Meaning) → ReadsTo s p m → Again s p q m
+    (s : Sheet) (p q : List ℕ) (m : Meaning) → Again s p q m
     → (room : ℕ) → length q ≤ room → writeOf s (readOf s q) q room ≡ made q

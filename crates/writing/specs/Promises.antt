@@ -10,7 +10,7 @@ use Rattle.packet.specs.declared.Message.{Message}
 use Rattle.packet.specs.Message.{messageSaid}
 use Rattle.writing.specs.declared.Writing.{Writing}
 use Rattle.writing.specs.declared.Writing.the-variants.{Written, Refused}
-use Rattle.writing.specs.Writing.{Made, Said, wrote, refusedWith, writeOf, said, writingSaid, after}
+use Rattle.writing.specs.Writing.{Said, wrote, refusedWith, writeOf, said, writingSaid, after}
 
 -- ---- answers that say the same are the same: from what is said the answer is got back
 

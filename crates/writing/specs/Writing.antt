@@ -1,6 +1,5 @@
 -- Writing a message (document 01, "Packet", and "Refusals": 12 line 0, 5, 11, in that order; "changes no lent octet"). Assumes nothing.
 use Prim.Native.Nat.{ℕ}
-use mathlib.Core.Bool.{Bool}
 use mathlib.Core.List.{List}
 use mathlib.Core.Option.{Option, none, some}
 use lib.ListN.{length}

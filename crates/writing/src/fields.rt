@@ -2,9 +2,9 @@
 use super::parts::Part;
 use super::parts::Plan;
 ghost use mathlib.Core.Path.{_≡_};
-ghost use Prim.Native.Nat.{_+_, _-_, _≤_};
+ghost use Prim.Native.Nat.{_+_, _≤_};
 ghost use lib.Dec.{T};
-ghost use lib.ListN.{length, replicate};
+ghost use lib.ListN.{length};
 ghost use Rattle.octets.specs.Big.{bigOf};
 ghost use Rattle.octets.specs.Buffer.{over, putAt};
 ghost use Rattle.packet.specs.Layout.{laid};

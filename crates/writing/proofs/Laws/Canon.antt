@@ -24,7 +24,7 @@ use Rattle.packet.specs.declared.kind.Form.{Form}
 use Rattle.packet.specs.declared.kind.Form.the-variants.{UserId, Number, Cause, Result, MessageType, Barred}
 use Rattle.packet.specs.declared.kind.Numbers.{Numbers}
 use Rattle.packet.specs.Header.{firstField}
-use Rattle.packet.specs.Walk.{zeros, padding, valueOf, fieldAt, fieldsOf}
+use Rattle.packet.specs.Walk.{zeros, padding, valueOf, fieldAt, fieldsOf, whole}
 use Rattle.packet.specs.Layout.{Content, laidAll, contentOf, contentsOf}
 use Rattle.packet.specs.Kind.{Row, Kind, kinds, kindOf, numbersOf, mayLack, grants}
 use Rattle.packet.specs.Judge.{Held, absent, numberAt, fits, heldIn, fieldsWith}
@@ -35,7 +35,7 @@ use Rattle.packet.proofs.Laws.Layouts.{laid-once, walk-meets}
 use Rattle.packet.proofs.Laws.Allowed.{uses, orderly, orderly-rest, arranged-used, allowed-ind, orderly-lack, first-allowed}
 use Rattle.writing.specs.Meaning.{Value, valueIn, Meaning}
 use Rattle.writing.specs.Packet.{numberHeld, isNothing, octetsFor, contentsFor, header, headed, kindWith, packetOf, packetAs}
-use Rattle.writing.specs.Canonical.{inOrder, bare, bareIn, canonicalIn, canonical}
+use Rattle.writing.specs.Canonical.{inOrder, bare, canonicalIn, canonical}
 use Rattle.writing.specs.Claims.{octets, ReadsTo}
 use Rattle.writing.proofs.Laws.Kinds.{leads, gathered, kindWith-all, kind-right, kind-with}
 use Rattle.writing.proofs.Laws.Front.{length-header, header-is}
@@ -58,122 +58,90 @@ module _ {A : Type 0} (p : A → Bool) where
   every-rest : (x : A) (xs : List A) → T (every p (x ∷ xs)) → T (every p xs)
   every-rest x xs t = T-and-right (p x) (every p xs) t
 
--- two tests that hold of each hold together
-every-and : {A : Type 0} (p q : A → Bool) (xs : List A) → T (every p xs) → T (every q xs) → T (every (λ (x : A). p x && q x) xs)
-every-and p q [] t u = tt
-every-and p q (x ∷ xs) t u =
-    T-and (p x && q x) (every (λ (y : _). p y && q y) xs)
-    (T-and (p x) (q x) (every-first p x xs t) (every-first q x xs u))
-    (every-and p q xs (every-rest p x xs t) (every-rest q x xs u))
-
 -- ---- fields in the order of rows
-
--- where there are no fields, they are in order
-in-order-nil : (rows : List Row) → T (inOrder rows [])
-unfolding inOrder
-in-order-nil [] = tt
-in-order-nil (r ∷ rows) = tt
-
--- where there are no rows, there are no fields in order
-in-order-end : (fs : List Field) → T (inOrder [] fs) → fs ≡ []
-unfolding inOrder
-in-order-end [] t = refl
-in-order-end (f ∷ fs) t = absurd t
-
--- fields in order have no ID that no row has
-unused-none : (id : ℕ) (rows : List Row) (fs : List Field) → uses id rows ≡ false → T (inOrder rows fs) → fieldsWith id fs ≡ []
-unfolding inOrder fieldsWith
-unused-none id [] [] e t = refl
-unused-none id [] (f ∷ fs) e t = absurd t
-unused-none id (r ∷ rows) [] e t = refl
-unused-none id (r ∷ rows) (f ∷ fs) e t =
-    let both = or-false-both (eqb (r .id) id) (uses id rows) e in
-    ⊎-elim
-    (λ own. rw (← eqb→eq (r .id) (f .id) own, both .0) (unused-none id rows fs (both .1) (rw (T-true (eqb (r .id) (f .id)) own) at t)))
-    (λ other. unused-none id rows (f ∷ fs) (both .1) (rw other at t))
-    (decide (eqb (r .id) (f .id)))
 
 -- a field with an ID that begins fields is the first with it
 own-first : (id : ℕ) (f : Field) (fs : List Field) → f .id ≡ id → getElem? (fieldsWith id (f ∷ fs)) 0 ≡ some f
 unfolding fieldsWith
 own-first id f fs e = rw (e, T-true (eqb id id) (eqb-refl id))
 
--- a field with the first row's ID goes before those in the order of the others
-in-order-own : (r : Row) (rows : List Row) (f : Field) (fs : List Field) → f .id ≡ r .id → T (inOrder rows fs) → T (inOrder (r ∷ rows) (f ∷ fs))
-unfolding inOrder
-in-order-own r rows f fs e t = rw (eq-eqb (r .id) (f .id) (sym e)) t
-
--- fields in the order of the others are in order where no other has the first row's ID
-in-order-skip : (r : Row) (rows : List Row) (fs : List Field) → uses (r .id) rows ≡ false → T (inOrder rows fs) → T (inOrder (r ∷ rows) fs)
-unfolding inOrder
-in-order-skip r rows [] e t = tt
-in-order-skip r rows (f ∷ fs) e t =
-    pick-cases T (eqb (r .id) (f .id)) (inOrder rows fs) (inOrder rows (f ∷ fs))
-    (λ own.
-    let first = own-first (r .id) f fs (sym (eqb→eq (r .id) (f .id) own)) in
-    absurd (Option·none-ne-some f (rw (unused-none (r .id) rows (f ∷ fs) e t) at first)))
-    (λ other. t)
-
 -- rows with the ID come first or not at all
 abbrev ahead : ℕ → List Row → Bool
 ahead id rows = leads id rows || not (uses id rows)
 
--- fields in the order of such rows that begin with another ID do not have it
-ahead-none : (id : ℕ) (rows : List Row) (f : Field) (fs : List Field) → T (ahead id rows) → T (gathered rows)
-    → eqb id (f .id) ≡ false → T (inOrder rows (f ∷ fs)) → fieldsWith id (f ∷ fs) ≡ []
-unfolding inOrder
-ahead-none id [] f fs a g e t = absurd t
-ahead-none id (r ∷ rows) f fs a g e t =
-    ⊎-elim
-    (λ own.
-    let is : r .id ≡ id = eqb→eq (r .id) id own in
-    ahead-none id rows f fs (rw is at (T-and-left (ahead (r .id) rows) (gathered rows) g)) (T-and-right (ahead (r .id) rows) (gathered rows) g) e (rw (is, e) at t))
-    (λ u. unused-none id (r ∷ rows) (f ∷ fs) (not-true (uses id (r ∷ rows)) (T-true (not (uses id (r ∷ rows))) u)) t)
-    (T-or-cases (eqb (r .id) id) (not (uses id (r ∷ rows))) a)
+module _ (p : List ℕ) where
+  -- where there are no fields, they are in order
+  in-order-nil : (rows : List Row) → T (inOrder p rows [])
+  unfolding inOrder
+  in-order-nil [] = tt
+  in-order-nil (r ∷ rows) = tt
 
--- of fields in order the first is the first row's, or none has its ID
-in-order-cases {κ} : (P : List Field → Type κ) (r : Row) (rows : List Row) → T (gathered (r ∷ rows))
-    → ((f : Field) (fs : List Field) → f .id ≡ r .id → T (inOrder rows fs) → P (f ∷ fs))
-    → ((fs : List Field) → fieldsWith (r .id) fs ≡ [] → T (inOrder rows fs) → P fs)
-    → (fs : List Field) → T (inOrder (r ∷ rows) fs) → P fs
-unfolding inOrder
-in-order-cases P r rows g here later [] t = later [] (unfold fieldsWith in refl) (in-order-nil rows)
-in-order-cases P r rows g here later (f ∷ fs) t =
-    ⊎-elim
-    (λ own. here f fs (sym (eqb→eq (r .id) (f .id) own)) (rw (T-true (eqb (r .id) (f .id)) own) at t))
-    (λ other.
-    let rest : T (inOrder rows (f ∷ fs)) = rw other at t in
-    later (f ∷ fs) (ahead-none (r .id) rows f fs (T-and-left (ahead (r .id) rows) (gathered rows) g) (T-and-right (ahead (r .id) rows) (gathered rows) g) other rest) rest)
-    (decide (eqb (r .id) (f .id)))
+  -- where there are no rows, there are no fields in order
+  in-order-end : (fs : List Field) → T (inOrder p [] fs) → fs ≡ []
+  unfolding inOrder
+  in-order-end [] t = refl
+  in-order-end (f ∷ fs) t = absurd t
+
+  -- fields in order have no ID that no row has
+  unused-none : (id : ℕ) (rows : List Row) (fs : List Field) → uses id rows ≡ false → T (inOrder p rows fs) → fieldsWith id fs ≡ []
+  unfolding inOrder fieldsWith
+  unused-none id [] [] e t = refl
+  unused-none id [] (f ∷ fs) e t = absurd t
+  unused-none id (r ∷ rows) [] e t = refl
+  unused-none id (r ∷ rows) (f ∷ fs) e t =
+      let both = or-false-both (eqb (r .id) id) (uses id rows) e in
+      ⊎-elim
+      (λ own. rw (← eqb→eq (r .id) (f .id) own, both .0) (unused-none id rows fs (both .1) (T-and-right (bare (r .form) p f) (inOrder p rows fs) (rw (T-true (eqb (r .id) (f .id)) own) at t))))
+      (λ other. unused-none id rows (f ∷ fs) (both .1) (rw other at t))
+      (decide (eqb (r .id) (f .id)))
+
+  -- a field with the first row's ID goes before those in the order of the others
+  in-order-own : (r : Row) (rows : List Row) (f : Field) (fs : List Field) → f .id ≡ r .id → T (bare (r .form) p f) → T (inOrder p rows fs) → T (inOrder p (r ∷ rows) (f ∷ fs))
+  unfolding inOrder
+  in-order-own r rows f fs e b t = rw (eq-eqb (r .id) (f .id) (sym e)) (T-and (bare (r .form) p f) (inOrder p rows fs) b t)
+
+  -- fields in the order of the others are in order where no other has the first row's ID
+  in-order-skip : (r : Row) (rows : List Row) (fs : List Field) → uses (r .id) rows ≡ false → T (inOrder p rows fs) → T (inOrder p (r ∷ rows) fs)
+  unfolding inOrder
+  in-order-skip r rows [] e t = tt
+  in-order-skip r rows (f ∷ fs) e t =
+      pick-cases T (eqb (r .id) (f .id)) (bare (r .form) p f && inOrder p rows fs) (inOrder p rows (f ∷ fs))
+      (λ own.
+      let first = own-first (r .id) f fs (sym (eqb→eq (r .id) (f .id) own)) in
+      absurd (Option·none-ne-some f (rw (unused-none (r .id) rows (f ∷ fs) e t) at first)))
+      (λ other. t)
+
+  -- fields in the order of such rows that begin with another ID do not have it
+  ahead-none : (id : ℕ) (rows : List Row) (f : Field) (fs : List Field) → T (ahead id rows) → T (gathered rows)
+      → eqb id (f .id) ≡ false → T (inOrder p rows (f ∷ fs)) → fieldsWith id (f ∷ fs) ≡ []
+  unfolding inOrder
+  ahead-none id [] f fs a g e t = absurd t
+  ahead-none id (r ∷ rows) f fs a g e t =
+      ⊎-elim
+      (λ own.
+      let is : r .id ≡ id = eqb→eq (r .id) id own in
+      ahead-none id rows f fs (rw is at (T-and-left (ahead (r .id) rows) (gathered rows) g)) (T-and-right (ahead (r .id) rows) (gathered rows) g) e (rw (is, e) at t))
+      (λ u. unused-none id (r ∷ rows) (f ∷ fs) (not-true (uses id (r ∷ rows)) (T-true (not (uses id (r ∷ rows))) u)) t)
+      (T-or-cases (eqb (r .id) id) (not (uses id (r ∷ rows))) a)
+
+  -- of fields in order the first is the first row's, or none has its ID
+  in-order-cases {κ} : (P : List Field → Type κ) (r : Row) (rows : List Row) → T (gathered (r ∷ rows))
+      → ((f : Field) (fs : List Field) → f .id ≡ r .id → T (bare (r .form) p f) → T (inOrder p rows fs) → P (f ∷ fs))
+      → ((fs : List Field) → fieldsWith (r .id) fs ≡ [] → T (inOrder p rows fs) → P fs)
+      → (fs : List Field) → T (inOrder p (r ∷ rows) fs) → P fs
+  unfolding inOrder
+  in-order-cases P r rows g here later [] t = later [] (unfold fieldsWith in refl) (in-order-nil rows)
+  in-order-cases P r rows g here later (f ∷ fs) t =
+      ⊎-elim
+      (λ own.
+      let both : T (bare (r .form) p f && inOrder p rows fs) = rw (T-true (eqb (r .id) (f .id)) own) at t in
+      here f fs (sym (eqb→eq (r .id) (f .id) own)) (T-and-left (bare (r .form) p f) (inOrder p rows fs) both) (T-and-right (bare (r .form) p f) (inOrder p rows fs) both))
+      (λ other.
+      let rest : T (inOrder p rows (f ∷ fs)) = rw other at t in
+      later (f ∷ fs) (ahead-none (r .id) rows f fs (T-and-left (ahead (r .id) rows) (gathered rows) g) (T-and-right (ahead (r .id) rows) (gathered rows) g) other rest) rest)
+      (decide (eqb (r .id) (f .id)))
 
 -- ---- one field
-
--- what is written in the second form is bare in the first
-abbrev bareAs : Form → Form → Bool
-bareAs UserId by = true
-bareAs Number by = true
-bareAs Cause UserId = false
-bareAs Cause Number = true
-bareAs Cause Cause = true
-bareAs Cause Result = true
-bareAs Cause MessageType = true
-bareAs Cause Barred = false
-bareAs Result by = true
-bareAs MessageType UserId = false
-bareAs MessageType Number = false
-bareAs MessageType Cause = false
-bareAs MessageType Result = false
-bareAs MessageType MessageType = true
-bareAs MessageType Barred = false
-bareAs Barred by = true
-
--- what is written for a row is bare in the other, where that has its ID
-abbrev bareFor : Row → Row → Bool
-bareFor by r = bareAs (r .form) (by .form) || not (eqb (r .id) (by .id))
-
--- it is so in each row
-abbrev bareRow : List Row → Row → Bool
-bareRow rows by = every (bareFor by) rows
 
 module _ (p : List ℕ) where
   -- the value of a field ends in the packet
@@ -220,59 +188,24 @@ module _ (p : List ℕ) where
 
   -- ---- bare
 
-  -- bare in rows is bare in a row with its ID
-  bare-row : (r : Row) (rows : List Row) (f : Field) → f .id ≡ r .id → T (bareIn (r ∷ rows) p f) → T (bare (r .form) p f)
-  unfolding bareIn
-  bare-row r rows f e t =
-      rw (eq-eqb (r .id) (f .id) (sym e)) at (T-and-left (pick (eqb (r .id) (f .id)) (bare (r .form) p f) true) (bareIn rows p f) t)
-
-  -- and in the rows behind the first
-  bareIn-rest : (r : Row) (rows : List Row) (fs : List Field) → T (every (bareIn (r ∷ rows) p) fs) → T (every (bareIn rows p) fs)
-  unfolding bareIn
-  bareIn-rest r rows =
-      every-weaker (bareIn (r ∷ rows) p) (bareIn rows p) (λ f. T-and-right (pick (eqb (r .id) (f .id)) (bare (r .form) p f) true) (bareIn rows p f))
-
   -- a value of two octets
   two-long : (f : Field) (xs : List ℕ) → T (coded p f) → valueOf p f ≡ xs → length xs ≡ 2 → T (eqb (f .len) 2)
   two-long f xs c e l = true-T (eqb (f .len) 2) (eq-eqb (f .len) 2 (sym (length-value f c) ∙ ap length e ∙ l))
 
-  -- what is written in a form is bare as the table above says
-  bare-as : (form by : Form) (v : Value) (f : Field) → T (bareAs form by) → T (coded p f) → valueOf p f ≡ octetsFor by v → T (bare form p f)
+  -- what is written in a form is bare in it
+  bare-own : (form : Form) (v : Value) (f : Field) → T (coded p f) → valueOf p f ≡ octetsFor form v → T (bare form p f)
   unfolding bare octetsFor valueOf
-  bare-as UserId by v f t c e = tt
-  bare-as Number by v f t c e = tt
-  bare-as Cause UserId v f t c e = absurd t
-  bare-as Cause Number v f t c e = two-long f (octetsFor Number v) c e (length-bigOf 2 (numberHeld v))
-  bare-as Cause Cause v f t c e = two-long f (octetsFor Cause v) c e (length-bigOf 2 (numberHeld v))
-  bare-as Cause Result v f t c e = two-long f (octetsFor Result v) c e (length-bigOf 2 (numberHeld v))
-  bare-as Cause MessageType v f t c e = two-long f (octetsFor MessageType v) c e refl
-  bare-as Cause Barred v f t c e = absurd t
-  bare-as Result by v f t c e = tt
-  bare-as MessageType UserId v f t c e = absurd t
-  bare-as MessageType Number v f t c e = absurd t
-  bare-as MessageType Cause v f t c e = absurd t
-  bare-as MessageType Result v f t c e = absurd t
-  bare-as MessageType MessageType v f t c e =
+  bare-own UserId v f c e = tt
+  bare-own Number v f c e = tt
+  bare-own Cause v f c e = two-long f (octetsFor Cause v) c e (length-bigOf 2 (numberHeld v))
+  bare-own Result v f c e = tt
+  bare-own MessageType v f c e =
       let two : f .len ≡ 2 = eqb→eq (f .len) 2 (two-long f (octetsFor MessageType v) c e refl) in
       let second : f .at + 3 ≡ f .at + 2 + 1 = omega arith in
       true-T (eqb (getD p (f .at + 3) 0) 0)
       (eq-eqb (getD p (f .at + 3) 0) 0
       (rw (second, ← getD-drop (f .at + 2) p 1 0, ← getD-take (f .len) (drop (f .at + 2) p) 1 0 (omega arith)) (ap (λ (xs : List ℕ). getD xs 1 0) e)))
-  bare-as MessageType Barred v f t c e = absurd t
-  bare-as Barred by v f t c e = tt
-
-  -- so what is written for a row is bare in rows
-  bare-in : (rows : List Row) (by : Row) (v : Value) (f : Field) → T (bareRow rows by) → T (coded p f) → f .id ≡ by .id → valueOf p f ≡ octetsFor (by .form) v
-      → T (bareIn rows p f)
-  unfolding bareIn
-  bare-in rows by v f t c own e =
-      every-weaker (bareFor by) (λ (r : Row). pick (eqb (r .id) (f .id)) (bare (r .form) p f) true)
-      (λ r u. pick-cases T (eqb (r .id) (f .id)) (bare (r .form) p f) true
-      (λ is.
-      ⊎-elim (λ w. bare-as (r .form) (by .form) v f w c e) (λ n. absurd (T-not (eqb (r .id) (by .id)) n (rw own at is)))
-      (T-or-cases (bareAs (r .form) (by .form)) (not (eqb (r .id) (by .id))) u))
-      (λ other. tt))
-      rows t
+  bare-own Barred v f c e = tt
 
 -- ---- fields laid out
 
@@ -299,21 +232,6 @@ module _ (p : List ℕ) where
           let is : contentOf p f ≡ own = cc in
           here f gs (ap (λ (c : Content). c .id) is) (ap (λ (c : Content). c .value) is) (cc)
 
-  -- they are bare, where what is written for each row is
-  laid-bare : (all rows : List Row) (values : List Value) → T (every (bareRow all) rows) → (fs : List Field) → T (every (coded p) fs)
-      → Laid rows values fs → T (every (bareIn all p) fs)
-  laid-bare all [] values t fs c l = rw (map-nil (contentOf p) fs (unfold contentsFor in l)) tt
-  laid-bare all (r ∷ rows) [] t fs c l = rw (map-nil (contentOf p) fs (unfold contentsFor in l)) tt
-  laid-bare all (r ∷ rows) (v ∷ values) t fs c l =
-      let behind = laid-bare all rows values (every-rest (bareRow all) r rows t) in
-      laid-cases (λ gs. T (every (coded p) gs) → T (every (bareIn all p) gs)) r rows v values
-      (λ f gs own e m d.
-      T-and (bareIn all p f) (every (bareIn all p) gs)
-      (bare-in p all r v f (every-first (bareRow all) r rows t) (every-first (coded p) f gs d) own e)
-      (behind gs (every-rest (coded p) f gs d) m))
-      (λ gs n m d. behind gs d m)
-      fs l c
-
 module _ (p : List ℕ) (grant : Bool) where
   -- a row whose value is nothing may lack its field
   nothing-lacks : (r : Row) (o : Option Field) (v : Held) → Allows p grant r o v → T (isNothing (valueIn p v)) → T (mayLack grant (r .need))
@@ -322,27 +240,28 @@ module _ (p : List ℕ) (grant : Bool) where
 
   -- fields laid out for values that the rows allow are in order
   laid-in-order : (rows : List Row) (os : List (Option Field)) (held : List Held) → AllowsAll p grant rows os held
-      → T (orderly rows) → (fs : List Field) → Laid p rows (map (valueIn p) held) fs → T (inOrder rows fs)
+      → T (orderly rows) → (fs : List Field) → T (every (coded p) fs) → Laid p rows (map (valueIn p) held) fs → T (inOrder p rows fs)
   laid-in-order =
-      allowed-ind p grant (λ rows os held. T (orderly rows) → (fs : List Field) → Laid p rows (map (valueIn p) held) fs → T (inOrder rows fs))
-      (λ t fs l. rw (map-nil (contentOf p) fs (unfold contentsFor in l)) (in-order-nil []))
-      (λ r rows o os v held a rest ih t.
+      allowed-ind p grant (λ rows os held. T (orderly rows) → (fs : List Field) → T (every (coded p) fs) → Laid p rows (map (valueIn p) held) fs → T (inOrder p rows fs))
+      (λ t fs c l. rw (map-nil (contentOf p) fs (unfold contentsFor in l)) (in-order-nil p []))
+      (λ r rows o os v held a rest ih t fs c l.
       let behind = ih (orderly-rest r rows t) in
-      laid-cases p (λ fs. T (inOrder (r ∷ rows) fs)) r rows (valueIn p v) (map (valueIn p) held)
-      (λ f fs own e l. in-order-own r rows f fs own (behind fs l))
-      (λ fs n l. in-order-skip r rows fs (orderly-lack p grant r rows t (nothing-lacks r o v a n)) (behind fs l)))
+      laid-cases p (λ fs. T (every (coded p) fs) → T (inOrder p (r ∷ rows) fs)) r rows (valueIn p v) (map (valueIn p) held)
+      (λ f fs own e l c.
+      in-order-own p r rows f fs own (bare-own p (r .form) (valueIn p v) f (every-first (coded p) f fs c) e) (behind fs (every-rest (coded p) f fs c) l))
+      (λ fs n l c. in-order-skip p r rows fs (orderly-lack p grant r rows t (nothing-lacks r o v a n)) (behind fs c l))
+      fs l c)
 
-  -- fields that are bare, and are those chosen, ID by ID
+  -- fields that are those chosen, ID by ID
   record Bare (rows : List Row) (os : List (Option Field)) (fs : List Field) : Type 0 where
     code : T (every (coded p) fs)
-    plain : T (every (bareIn rows p) fs)
     same : (id : ℕ) → T (uses id rows) → fieldsWith id fs ≡ fieldsWith id (present os)
 
   -- where none is chosen for the first row, they are so for the others
   bare-none : (r : Row) (rows : List Row) (os : List (Option Field)) (fs : List Field) → Bare (r ∷ rows) (none ∷ os) fs → Bare rows os fs
   unfolding present
   bare-none r rows os fs b =
-      record { code = b .code; plain = bareIn-rest p r rows fs (b .plain); same = λ id u. b .same id (T-or-right (eqb (r .id) id) (uses id rows) u) }
+      record { code = b .code; same = λ id u. b .same id (T-or-right (eqb (r .id) id) (uses id rows) u) }
 
   -- where their first is, the rest are
   bare-some : (r : Row) (rows : List Row) (f : Field) (os : List (Option Field)) (fs : List Field) → Bare (r ∷ rows) (some f ∷ os) (f ∷ fs) → Bare rows os fs
@@ -350,7 +269,6 @@ module _ (p : List ℕ) (grant : Bool) where
   bare-some r rows f os fs b =
       record {
         code = every-rest (coded p) f fs (b .code);
-        plain = bareIn-rest p r rows fs (every-rest (bareIn (r ∷ rows) p) f fs (b .plain));
         same = λ id u. behind id (eqb (f .id) id) (b .same id (T-or-right (eqb (r .id) id) (uses id rows) u));
       }
     where
@@ -375,21 +293,20 @@ module _ (p : List ℕ) (grant : Bool) where
 
   -- fields in order that are bare and those chosen are those laid out
   bare-laid : T (octets p) → (rows : List Row) (os : List (Option Field)) (held : List Held) → AllowsAll p grant rows os held
-      → T (orderly rows) → T (gathered rows) → (fs : List Field) → T (inOrder rows fs) → Bare rows os fs → Laid p rows (map (valueIn p) held) fs
+      → T (orderly rows) → T (gathered rows) → (fs : List Field) → T (inOrder p rows fs) → Bare rows os fs → Laid p rows (map (valueIn p) held) fs
   bare-laid o =
       allowed-ind p grant
-      (λ rows os held. T (orderly rows) → T (gathered rows) → (fs : List Field) → T (inOrder rows fs) → Bare rows os fs → Laid p rows (map (valueIn p) held) fs)
-      (λ t g fs i b. unfold contentsFor in rw (in-order-end fs i))
+      (λ rows os held. T (orderly rows) → T (gathered rows) → (fs : List Field) → T (inOrder p rows fs) → Bare rows os fs → Laid p rows (map (valueIn p) held) fs)
+      (λ t g fs i b. unfold contentsFor in rw (in-order-end p fs i))
       (λ r rows c os v held a rest ih t g.
       let values = map (valueIn p) held in
       let behind = ih (orderly-rest r rows t) (T-and-right (ahead (r .id) rows) (gathered rows) g) in
       let first : (fs : List Field) → Bare (r ∷ rows) (c ∷ os) fs → getElem? (fieldsWith (r .id) fs) 0 ≡ c =
       λ fs b. rw (b .same (r .id) (T-or-left (eqb (r .id) (r .id)) (uses (r .id) rows) (eqb-refl (r .id)))) (first-allowed p grant r rows c os v held t a rest .0) in
-      in-order-cases (λ fs. Bare (r ∷ rows) (c ∷ os) fs → Laid p (r ∷ rows) (valueIn p v ∷ values) fs) r rows g
-      (λ f fs own i b.
+      in-order-cases p (λ fs. Bare (r ∷ rows) (c ∷ os) fs → Laid p (r ∷ rows) (valueIn p v ∷ values) fs) r rows g
+      (λ f fs own plain i b.
       let is : c ≡ some f = sym (first (f ∷ fs) b) ∙ own-first (r .id) f fs own in
-      laid-some o r rows f v values fs (rw is at a) (every-first (coded p) f fs (b .code))
-      (bare-row p r rows f own (every-first (bareIn (r ∷ rows) p) f fs (b .plain)))
+      laid-some o r rows f v values fs (rw is at a) (every-first (coded p) f fs (b .code)) plain
       (behind fs i (bare-some r rows f os fs (rw is at b))))
       (λ fs e i b.
       let is : c ≡ none = sym (first fs b) ∙ rw e in
@@ -398,16 +315,16 @@ module _ (p : List ℕ) (grant : Bool) where
 
 -- ---- the kinds
 
--- a kind's rows are in order, and what is written for each is bare in those with its ID
+-- a kind's rows are in order
 abbrev KindPlain : Kind → Type 0
-KindPlain k = T (orderly (k .rows)) × T (every (bareRow (k .rows)) (k .rows))
+KindPlain k = T (orderly (k .rows))
 
 -- each kind of the table is so
 kind-plain : (n : Numbers) (kind : ℕ) (k : Kind) → kindWith kind (kinds n) ≡ some k → KindPlain k
 unfolding kinds
 kind-plain n kind k e =
     kindWith-all kind k KindPlain (kinds n)
-    ((tt, tt), ((tt, tt), ((tt, tt), ((tt, tt), ((tt, tt), ((tt, tt), ((tt, tt), tt))))))) e .0
+    (tt, (tt, (tt, (tt, (tt, (tt, (tt, tt))))))) e .0
 
 -- ---- packets that read to a meaning
 
@@ -461,10 +378,9 @@ module _ (s : Sheet) (p : List ℕ) (m : Meaning) (r : Says s p m) where
       let right = kind-plain (numbersOf s) (r .kind .kind) (r .kind) (kind-with (numbersOf s) p (r .kind) (r .is) .0) in
       let fs = fieldsOf p in
       let pads : Field → Bool = λ f. zeros (padding p (f .at)) in
-      T-and (inOrder rows fs) (every (λ (f : Field). bareIn rows p f && pads f) fs)
-      (laid-in-order p grant rows (r .chosen) (r .held) (r .allows) (right .0) fs l)
-      (every-and (bareIn rows p) pads fs
-      (laid-bare p rows rows values (right .1) fs (every-coded p) l)
+      T-and (whole p) (inOrder p rows fs && every pads fs) (r .walked)
+      (T-and (inOrder p rows fs) (every pads fs)
+      (laid-in-order p grant rows (r .chosen) (r .held) (r .allows) right fs (every-coded p) l)
       (every-field p pads (λ at h t. unfold fieldAt in right-padding p at t)))
 
   -- and a canonical one is so laid out
@@ -473,13 +389,13 @@ module _ (s : Sheet) (p : List ℕ) (m : Meaning) (r : Says s p m) where
   canonical-laid o t =
       let has = kind-with (numbersOf s) p (r .kind) (r .is) in
       let fs = fieldsOf p in
-      let test : Field → Bool = λ f. bareIn rows p f && zeros (padding p (f .at)) in
-      bare-laid p grant o rows (r .chosen) (r .held) (r .allows) (kind-plain (numbersOf s) (r .kind .kind) (r .kind) (has .0) .0)
+      let pads : Field → Bool = λ f. zeros (padding p (f .at)) in
+      let u = T-and-right (whole p) (inOrder p rows fs && every pads fs) t in
+      bare-laid p grant o rows (r .chosen) (r .held) (r .allows) (kind-plain (numbersOf s) (r .kind .kind) (r .kind) (has .0))
       (kind-right s (r .valid) (r .kind .kind) (r .kind) (has .0) .together)
-      fs (T-and-left (inOrder rows fs) (every test fs) t)
+      fs (T-and-left (inOrder p rows fs) (every pads fs) u)
       (record {
         code = every-coded p;
-        plain = every-weaker test (bareIn rows p) (λ f. T-and-left (bareIn rows p f) (zeros (padding p (f .at)))) fs (T-and-right (inOrder rows fs) (every test fs) t);
         same = arranged-used rows fs (present (r .chosen)) (r .arranged);
       })
 

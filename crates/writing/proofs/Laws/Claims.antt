@@ -88,18 +88,18 @@ pub reads-back : ReadsBack
 reads-back s message names room p e =
     let w = wrote s message names room p e in
     let r = packet-reads s (w .valid) (w .meant) p (w .packet) in
-    (r .0, r .1 ∙ sym (w .means))
+    (r .0, r .1 ∙ sym (w .means), written-canonical s (w .valid) (w .meant) p (w .packet))
 
 -- ---- what is writable
 
 pub writable-exactly : WritableExactly
 writable-exactly s v message names m e = (
   (λ x.
-      let back = reads-back s message names (x .0) (x .1) (x .2) in
-      (x .1, (back .0, back .1 ∙ e))),
+      let back = reads-back s message names (length (x .0)) (x .0) (x .1 (length (x .0)) (omega arith)) in
+      (x .0, (back .0, back .1 ∙ e))),
   λ x.
       let q = reads-packet s (x .0) m (x .1) in
-      (length (q .0), q .0, write-made s v message names (length (q .0)) m e (q .0) (q .1) (omega arith)),
+      (q .0, λ room l. write-made s v message names room m e (q .0) (q .1) l),
 )
 
 pub five-exactly : FiveExactly
@@ -137,6 +137,6 @@ pub canonical-once : CanonicalOnce
 canonical-once s p q m r t c d = Option·some-injective p q (sym (canonical-is s p m r c) ∙ canonical-is s q m t d)
 
 pub twice : Twice
-twice s p q m r a room l =
+twice s p q m a room l =
     let valid = reads-says s q m (a .reads) .valid in
     write-made s valid (readOf s q) q room m (a .reads .1) q (canonical-is s q m (a .reads) (a .isCanonical)) l
