@@ -1,5 +1,5 @@
 // One field at a place of any octets (document 01, "Packet").
-use super::walk::FIRST_FIELD;
+use super::codes::FIRST_FIELD;
 use super::walk::size_at;
 use super::walk::walk;
 use sheet::Refusal;

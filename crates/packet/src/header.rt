@@ -1,5 +1,6 @@
 // The header of a packet (document 01, "Packet"; RFC 3550, 6.7).
-use super::walk::FIRST_FIELD;
+use super::codes::APP;
+use super::codes::FIRST_FIELD;
 ghost use mathlib.Core.Path.{_≡_};
 ghost use Prim.Native.Nat.{_≤_};
 ghost use lib.ListN.{length};
@@ -7,9 +8,6 @@ ghost use Rattle.packet.specs.Header.{sizeRight, headRight};
 
 // The most octets of a packet.
 const MOST: usize = 256;
-
-// The packet type of APP (RFC 3550, 12.1).
-const APP: u8 = 204;
 
 // "12 to 256 octets, a multiple of 4".
 pub fn is_size_right(packet: &[u8]) -> bool

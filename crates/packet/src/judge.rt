@@ -1,8 +1,8 @@
 // The fields of a packet judged against what its kind takes (document 01, "Packet", and refusal 5).
+use super::codes::FIRST_FIELD;
 use super::kind::Form;
 use super::kind::SLOTS;
 use super::kind::Slots;
-use super::walk::FIRST_FIELD;
 use super::walk::number_at;
 use super::walk::size_at;
 use sheet::user::is_user_id;

@@ -1,4 +1,12 @@
 // The seven messages and the fields of each (document 01, "Packet").
+use super::codes::INDICATOR;
+use super::codes::MCV0;
+use super::codes::MCV1;
+use super::codes::MCV2;
+use super::codes::MESSAGE_TYPE;
+use super::codes::REJECT_CAUSE;
+use super::codes::SOURCE;
+use super::codes::USER_ID;
 use sheet::Sheet;
 ghost use mathlib.Core.Path.{_≡_};
 ghost use Prim.Native.Nat.{_<_, _≤_};
@@ -39,30 +47,6 @@ pub struct Slot {
 pub const SLOTS: usize = 3;
 
 pub type Slots = [Slot; SLOTS];
-
-// The letters "MCV0", as one number.
-const MCV0: u32 = 0x4D435630;
-
-// The letters "MCV1".
-const MCV1: u32 = 0x4D435631;
-
-// The letters "MCV2".
-const MCV2: u32 = 0x4D435632;
-
-// "User ID (6)"; the Source ID of a receive media request has the same.
-const USER_ID: u32 = 6;
-
-// "Reject Cause (2)".
-const REJECT_CAUSE: u32 = 2;
-
-// "Source (10)".
-const SOURCE: u32 = 10;
-
-// "Message Type (12)".
-const MESSAGE_TYPE: u32 = 12;
-
-// "Indicator (13)".
-const INDICATOR: u32 = 13;
 
 // No field has this ID.
 const UNUSED: u32 = 256;

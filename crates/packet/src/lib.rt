@@ -1,4 +1,5 @@
 // RTCP APP packets of MCVideo (document 01, "Packet"; RFC 3550, 6.7): read as one of seven messages.
+pub mod codes;
 pub mod field;
 mod header;
 mod judge;
@@ -119,7 +120,7 @@ fn read_by(numbers: Numbers, packet: &[u8]) -> Reading
     if kind == 0 {
         return refused(3);
     }
-    if walk::walk(packet, walk::FIRST_FIELD) < packet.len() {
+    if walk::walk(packet, codes::FIRST_FIELD) < packet.len() {
         return refused(4);
     }
     read_kind(numbers, packet, kind, head)

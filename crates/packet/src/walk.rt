@@ -5,9 +5,6 @@ ghost use lib.ListN.{length};
 ghost use Rattle.octets.specs.Big.{bigAt};
 ghost use Rattle.packet.specs.Walk.{nextAt, stopFrom};
 
-// The fields follow the header's twelve octets.
-pub const FIRST_FIELD: usize = 12;
-
 // An ID of this or more is refused.
 const ID_END: u8 = 192;
 

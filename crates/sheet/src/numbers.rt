@@ -13,19 +13,19 @@ pub type Numbers = [u32; LINES];
 // The lines of the messages' numbers, and of the Result's ID, counted from 0.
 pub const REQUEST: usize = 2;
 
-pub const RESPONSE: usize = 3;
+pub const RESPONSE: usize = REQUEST + 1;
 
-pub const END_REQUEST: usize = 4;
+pub const END_REQUEST: usize = RESPONSE + 1;
 
-pub const END_RESPONSE: usize = 5;
+pub const END_RESPONSE: usize = END_REQUEST + 1;
 
-pub const TX_END: usize = 6;
+pub const TX_END: usize = END_RESPONSE + 1;
 
-pub const TX_END_RESPONSE: usize = 7;
+pub const TX_END_RESPONSE: usize = TX_END + 1;
 
-pub const ACK: usize = 8;
+pub const ACK: usize = TX_END_RESPONSE + 1;
 
-pub const RESULT_ID: usize = 9;
+pub const RESULT_ID: usize = ACK + 1;
 
 // Whether some sheet reads to the struct with these numbers.
 pub fn are_valid(numbers: &Numbers) -> bool

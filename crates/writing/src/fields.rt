@@ -11,8 +11,8 @@ ghost use Rattle.packet.specs.Layout.{laid};
 ghost use Rattle.packet.specs.Walk.{toWord};
 ghost use Rattle.writing.specs.Inner.{userContent, partOctets, partRight, partSize, planOctets, planRight, planSize};
 
-// "User ID (6)"; the Source ID of a receive media request has the same.
-const USER_ID: u8 = 6;
+// The ID octet of a User ID.
+const USER_ID: u8 = packet::codes::USER_ID as u8;
 
 // Puts octets at a place.
 fn put_octets(s: &mut [u8], at: usize, octets: &[u8])
@@ -35,7 +35,7 @@ fn put_word(s: &mut [u8], at: usize, word: u32) -> usize
     at + 4
 }
 
-// Puts a User ID into a field whose last word is zeros already, and gives the place past it.
+// Puts a User ID's field, its last word zeroed first so that the padding is zero, and gives the place past it.
 fn put_user(s: &mut [u8], at: usize, user: &[u8]) -> usize
     requires { ⌜ (length (now user) ≤ 60) × (at + toWord (2 + length (now user)) ≤ length (now s)) ⌝ }
     ensures { λ r. ⌜ (now (s .exit) ≡ putAt (now (s .entry)) at (laid (userContent (now (user .entry))))) × (r ≡ at + toWord (2 + length (now (user .entry)))) ⌝ }

@@ -5,6 +5,7 @@ mod messages;
 mod parts;
 
 use packet::Message;
+use packet::codes::FIRST_FIELD;
 use parts::Plan;
 use sheet::Refusal;
 use sheet::Sheet;
@@ -35,12 +36,12 @@ fn write_plan(plan: Plan, names: &[u8], out: &mut [u8]) -> Writing
     if !parts::are_right(plan, names) {
         return refused(5);
     }
-    let size = front::FIRST_FIELD + parts::size_of(plan);
+    let size = FIRST_FIELD + parts::size_of(plan);
     if out.len() < size {
         return refused(11);
     }
     front::put_header(out, plan, size);
-    fields::put_fields(&mut out[front::FIRST_FIELD..], plan, names);
+    fields::put_fields(&mut out[FIRST_FIELD..], plan, names);
     Writing::Written(size)
 }
 

@@ -5,6 +5,13 @@ use packet::Head;
 use packet::Indicator;
 use packet::Message;
 use packet::Verdict;
+use packet::codes::INDICATOR;
+use packet::codes::MCV0;
+use packet::codes::MCV1;
+use packet::codes::MCV2;
+use packet::codes::MESSAGE_TYPE;
+use packet::codes::REJECT_CAUSE;
+use packet::codes::SOURCE;
 use sheet::numbers::ACK;
 use sheet::numbers::END_REQUEST;
 use sheet::numbers::END_RESPONSE;
@@ -21,26 +28,11 @@ ghost use Rattle.sheet.specs.Value.{sheetFrom, validAlone};
 ghost use Rattle.writing.specs.Packet.{firstOctet};
 ghost use Rattle.writing.specs.Inner.{numberPart, indicatorPart, resultPart, causePart, planWith, planFor, indicatorWithin, verdictWithin, inWidth};
 
-// The letters "MCV0", as one number.
-const MCV0: u32 = 0x4D435630;
+// Version 2 and padding bit 0, in the first octet.
+const PLAIN: u8 = 128;
 
-// The letters "MCV1".
-const MCV1: u32 = 0x4D435631;
-
-// The letters "MCV2".
-const MCV2: u32 = 0x4D435632;
-
-// "Reject Cause (2)".
-const REJECT_CAUSE: u32 = 2;
-
-// "Source (10)".
-const SOURCE: u32 = 10;
-
-// "Message Type (12)".
-const MESSAGE_TYPE: u32 = 12;
-
-// "Indicator (13)".
-const INDICATOR: u32 = 13;
+// The same with the first bit of the subtype, which asks for an Ack.
+const ASKING: u8 = PLAIN + 16;
 
 // A field with a number: ID octet, length octet 2 and the number are one word.
 fn numbered(id: u32, number: u16) -> Part
@@ -87,9 +79,9 @@ fn start_of(ack: bool, number: u32) -> u8
     ensures { λ r. ⌜ r ≡ firstOctet ack number ⌝ }
 {
     if ack {
-        144 + (number as u8)
+        ASKING + (number as u8)
     } else {
-        128 + (number as u8)
+        PLAIN + (number as u8)
     }
 }
 
