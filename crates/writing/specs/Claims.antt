@@ -16,21 +16,21 @@ use Rattle.writing.specs.Meaning.{Meaning, meaning}
 use Rattle.writing.specs.Writing.{made, refused, writeOf}
 use Rattle.writing.specs.Canonical.{canonical}
 
--- a packet's octets
-unfoldable pub octets : List ℕ → Bool
-octets p = every (λ (x : ℕ). ltb x 256) p
+-- each is an octet
+unfoldable pub areOctets : List ℕ → Bool
+areOctets p = every (λ (x : ℕ). ltb x 256) p
 
 -- a packet reads to a meaning
 abbrev pub ReadsTo : Sheet → List ℕ → Meaning → Type 0
-ReadsTo s p m = T (octets p) × (meaning p (readOf s p) ≡ some m)
+ReadsTo s p m = T (areOctets p) × (meaning p (readOf s p) ≡ some m)
 
 -- ---- what is written reads back
 
--- What is written reads back as the same message, and is made of octets.
+-- What is written is made of octets, reads back as the same message, and is canonical.
 abbrev pub ReadsBack : Type 0
 ReadsBack =
     (s : Sheet) (message : Outcome) (names : List ℕ) (room : ℕ) (p : List ℕ) → writeOf s message names room ≡ made p
-    → T (octets p) × (meaning p (readOf s p) ≡ meaning names message) × T (canonical (numbersOf s) p)
+    → T (areOctets p) × (meaning p (readOf s p) ≡ meaning names message) × T (canonical (numbersOf s) p)
 
 -- ---- what is writable
 

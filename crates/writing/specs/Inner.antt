@@ -1,10 +1,11 @@
 -- What the inner functions say of what is to be written. The public promise rests on these, and nobody need believe them: each is
 -- only a step of a proof. Assumes nothing.
+use mathlib.Core.Path.{_≡_}
 use Prim.Native.Nat.{ℕ, _+_, _*_}
 use mathlib.Core.Bool.{Bool, true, _&&_}
 use mathlib.Core.List.{List, [], _++_}
 use mathlib.Core.Option.{Option, none, some}
-use lib.ListN.{take, drop}
+use lib.ListN.{length, take, drop}
 use Rattle.octets.specs.Choice.{pick}
 use Rattle.octets.specs.Big.{bigOf}
 use Rattle.sheet.specs.declared.Sheet.{Sheet}
@@ -20,16 +21,18 @@ use Rattle.packet.specs.Message.{nameSaid}
 use Rattle.packet.specs.Claims.{nameRight}
 use Rattle.packet.specs.Layout.{Content, laid}
 use Rattle.packet.specs.Walk.{toWord}
+use Rattle.writing.specs.declared.Writing.{Writing}
 use Rattle.writing.specs.declared.parts.Part.{Part}
 use Rattle.writing.specs.declared.parts.Part.the-variants.{Absent as NoPart, Word, Named}
 use Rattle.writing.specs.declared.parts.Plan.{Plan}
-use Rattle.writing.specs.Packet.{within, firstOctet, headed}
+use Rattle.writing.specs.Packet.{within, firstOctet, withHeader}
+use Rattle.writing.specs.Writing.{roomFor, told, writingSaid, after}
 
 -- ---- a message's plan
 
 -- ID octet, length octet 2 and a number of two octets, as one word
 abbrev pub numberPart : ℕ → ℕ → Part
-numberPart id number = Word (id * 16777216 + 131072 + number)
+numberPart id number = Word (id * 0x1000000 + 0x20000 + number)
 
 abbrev pub indicatorPart : Indicator → Part
 indicatorPart Absent = NoPart
@@ -63,7 +66,7 @@ planFor s (TransmissionEnd h cause i) = planWith h 0x4D435632 (s .txend) (number
 planFor s (TransmissionEndResponse h) = planWith h 0x4D435632 (s .txendresponse) NoPart NoPart NoPart
 planFor s (Ack h source about) = planWith h 0x4D435632 (s .ack) (numberPart 10 source) (numberPart 12 (about * 256)) NoPart
 
--- its numbers are no wider than their types
+-- its numbers are no wider than their types say
 abbrev pub indicatorWithin : Indicator → Bool
 indicatorWithin Absent = true
 indicatorWithin (Given n) = within 2 n
@@ -99,10 +102,18 @@ partRight names NoPart = true
 partRight names (Word w) = true
 partRight names (Named n) = nameRight names (nameSaid n)
 
+-- a field whose value is so long, with its padding
+abbrev pub fieldSize : ℕ → ℕ
+fieldSize len = toWord (2 + len)
+
+-- a length of 32 bits makes no larger one
+abbrev pub sizeBound : ℕ
+sizeBound = 0x100000008
+
 abbrev pub partSize : Part → ℕ
 partSize NoPart = 0
 partSize (Word w) = 4
-partSize (Named n) = toWord (2 + n .len)
+partSize (Named n) = fieldSize (n .len)
 
 abbrev pub planOctets : List ℕ → Plan → List ℕ
 planOctets names p = partOctets names (p .first) ++ partOctets names (p .second) ++ partOctets names (p .third)
@@ -117,4 +128,10 @@ planSize p = partSize (p .first) + partSize (p .second) + partSize (p .third)
 
 unfoldable pub planned : List ℕ → Plan → Option (List ℕ)
 planned names p =
-    pick (planRight names p) (some (headed (p .start) (p .ssrc) (bigOf 4 (p .letters)) (planOctets names p))) none
+    pick (planRight names p) (some (withHeader (p .start) (p .ssrc) (bigOf 4 (p .letters)) (planOctets names p))) none
+
+-- what is answered, and what the buffer holds, where there is so much room
+abbrev pub PlanWritten : List ℕ → Plan → List ℕ → Writing → List ℕ → Type 0
+PlanWritten names p out r now =
+    let w = roomFor (length out) (planned names p) in
+    (writingSaid r ≡ told w) × (now ≡ after w out)

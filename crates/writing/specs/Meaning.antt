@@ -1,5 +1,5 @@
--- What a message says, with the octets its names lie in: its kind, its numbers, and each name as octets, wherever they lie
--- (document 01, "Packet": "what is written reads back as the same message"). Assumes nothing.
+-- What a message says, with the octets its names lie in: its kind, its numbers, and each name as octets, wherever they lie. Two messages are
+-- the same if they mean the same (document 01, "Packet": "A packet that reads well and is written again"). Assumes nothing.
 use Prim.Native.Nat.{ℕ, _+_}
 use mathlib.Core.Bool.{Bool}
 use mathlib.Core.List.{List, map}

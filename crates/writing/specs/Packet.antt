@@ -21,16 +21,16 @@ use Rattle.writing.specs.Meaning.{Value, nothing, numeral, spelt, nowher
 
 -- a name of which the test holds; a number of which it does
 abbrev pub isName : (List ℕ → Bool) → Value → Bool
-isName p nothing = false
-isName p (numeral n) = false
-isName p (spelt xs) = p xs
-isName p nowhere = false
+isName test nothing = false
+isName test (numeral n) = false
+isName test (spelt xs) = test xs
+isName test nowhere = false
 
 abbrev pub isNumber : (ℕ → Bool) → Value → Bool
-isNumber p nothing = false
-isNumber p (numeral n) = p n
-isNumber p (spelt xs) = false
-isNumber p nowhere = false
+isNumber test nothing = false
+isNumber test (numeral n) = test n
+isNumber test (spelt xs) = false
+isNumber test nowhere = false
 
 -- a number that goes into so many octets
 abbrev pub within : ℕ → ℕ → Bool
@@ -46,6 +46,7 @@ holds Result v = isNumber (λ (n : ℕ). leb n 1) v
 holds MessageType v = isNumber (within 1) v
 holds Barred v = false
 
+-- the value of a field that is absent
 unfoldable pub isNothing : Value → Bool
 isNothing nothing = true
 isNothing (numeral n) = false
@@ -56,6 +57,7 @@ isNothing nowhere = false
 unfoldable pub takes : Bool → Row → Value → Bool
 takes grant r v = pick (isNothing v) (mayLack grant (r .need)) (mayHave grant (r .need) && holds (r .form) v)
 
+-- row by row, in the order written
 unfoldable pub takesAll : Bool → List Row → List Value → Bool
 takesAll grant [] [] = true
 takesAll grant [] (v ∷ values) = false
@@ -66,6 +68,7 @@ takesAll grant (r ∷ rows) (v ∷ values) = takes grant r v && takesAll grant r
 unfoldable pub isOne : Value → Bool
 isOne v = isNumber (λ (n : ℕ). eqb n 1) v
 
+-- a meaning of this kind that some packet reads to
 unfoldable pub writable : Kind → Meaning → Bool
 writable k m = within 4 (m .ssrc) && takesAll (grants isOne (k .rows) (m .values)) (k .rows) (m .values)
 
@@ -110,17 +113,20 @@ unfoldable pub header : ℕ → ℕ → ℕ → List ℕ → List ℕ
 header first size ssrc letters = (first ∷ 204 ∷ bigOf 2 (size / word - 1)) ++ (bigOf 4 ssrc ++ letters)
 
 -- "Fields follow"
-unfoldable pub headed : ℕ → ℕ → List ℕ → List ℕ → List ℕ
-headed first ssrc letters fields = header first (firstField + length fields) ssrc letters ++ fields
+unfoldable pub withHeader : ℕ → ℕ → List ℕ → List ℕ → List ℕ
+withHeader first ssrc letters fields = header first (firstField + length fields) ssrc letters ++ fields
 
+-- the packet of a meaning of this kind
 unfoldable pub packetAs : Kind → Meaning → List ℕ
-packetAs k m = headed (firstOctet (m .ack) (k .number)) (m .ssrc) (k .letters) (laidAll (contentsFor (k .rows) (m .values)))
+packetAs k m = withHeader (firstOctet (m .ack) (k .number)) (m .ssrc) (k .letters) (laidAll (contentsFor (k .rows) (m .values)))
 
 -- ---- the kind that the meaning has
 
+-- by its number in document 01's table
 unfoldable pub kindWith : ℕ → List Kind → Option Kind
 kindWith kind ks = first-by (λ (k : Kind). eqb (k .kind) kind) ks
 
+-- the packet of a meaning, where it has one
 unfoldable pub packetOf : Numbers → Meaning → Option (List ℕ)
 packetOf n m = by (kindWith (m .kind) (kinds n))
   where

@@ -10,7 +10,7 @@ use Rattle.packet.specs.declared.Message.{Message}
 use Rattle.packet.specs.Message.{messageSaid}
 use Rattle.writing.specs.declared.Writing.{Writing}
 use Rattle.writing.specs.declared.Writing.the-variants.{Written, Refused}
-use Rattle.writing.specs.Writing.{Said, wrote, refusedWith, writeOf, said, writingSaid, after}
+use Rattle.writing.specs.Writing.{Said, wrote, refusedWith, writeOf, told, writingSaid, after}
 
 -- ---- answers that say the same are the same: from what is said the answer is got back
 
@@ -31,7 +31,7 @@ writing-apart x y e = sym (writing-back x) ∙ ap writingBack e ∙ writing-back
 abbrev pub write≡ : Sheet → Message → List ℕ → List ℕ → Writing → List ℕ → Type 0
 write≡ sheet m names out r now =
     let w = writeOf sheet (messageSaid m) names (length out) in
-    (writingSaid r ≡ said w) × (now ≡ after w out)
+    (writingSaid r ≡ told w) × (now ≡ after w out)
 
 pub write-once : (sheet : Sheet) (m : Message) (names out : List ℕ) (x y : Writing) (now other : List ℕ)
     → write≡ sheet m names out x now → write≡ sheet m names out y other → (x ≡ y) × (now ≡ other)

@@ -20,29 +20,31 @@ pub data Made : Type 0 where
   made : List ℕ → Made
   refused : ℕ → ℕ → Made
 
--- "11: output shorter than the packet"; "5: .. a message to write that no packet reads to"
+-- 5: "a message to write that no packet reads to"; 11: "output shorter than the packet"
 unfoldable pub roomFor : ℕ → Option (List ℕ) → Made
 roomFor room none = refused 5 0
 roomFor room (some p) = pick (leb (length p) room) (made p) (refused 11 0)
 
+-- the packet of a meaning under a sheet, where there is one
 unfoldable pub packetFor : Sheet → Option Meaning → Option (List ℕ)
 packetFor s none = none
 packetFor s (some m) = packetOf (numbersOf s) m
 
--- a message with the octets its names lie in, and the buffer's length
+-- A message with the octets its names lie in, and the buffer's length. The message is set out as reading sets it out, so that what was
+-- read can be written again; a refusal has no meaning, and is no message.
 unfoldable pub writeOf : Sheet → Outcome → List ℕ → ℕ → Made
 writeOf s message names room = pick (validAlone s) (roomFor room (packetFor s (meaning names message))) (refused 12 0)
 
 -- ---- what is answered, and what the buffer holds
 
--- "the number of octets written", or a refusal
+-- how many octets were written, or a refusal
 pub data Said : Type 0 where
   wrote : ℕ → Said
   refusedWith : ℕ → ℕ → Said
 
-unfoldable pub said : Made → Said
-said (made p) = wrote (length p)
-said (refused number at) = refusedWith number at
+unfoldable pub told : Made → Said
+told (made p) = wrote (length p)
+told (refused number at) = refusedWith number at
 
 abbrev pub writingSaid : Writing → Said
 writingSaid (Written octets) = wrote octets

@@ -1,6 +1,7 @@
 // The fields of a packet, put into the part of a buffer that starts at octet 12 (document 01, "Packet").
 use super::parts::Part;
 use super::parts::Plan;
+use super::parts::field_size;
 ghost use mathlib.Core.Path.{_≡_};
 ghost use Prim.Native.Nat.{_+_, _≤_};
 ghost use lib.Dec.{T};
@@ -8,8 +9,7 @@ ghost use lib.ListN.{length};
 ghost use Rattle.octets.specs.Big.{bigOf};
 ghost use Rattle.octets.specs.Buffer.{over, putAt};
 ghost use Rattle.packet.specs.Layout.{laid};
-ghost use Rattle.packet.specs.Walk.{toWord};
-ghost use Rattle.writing.specs.Inner.{userContent, partOctets, partRight, partSize, planOctets, planRight, planSize};
+ghost use Rattle.writing.specs.Inner.{userContent, fieldSize, partOctets, partRight, partSize, planOctets, planRight, planSize};
 
 // The ID octet of a User ID.
 const USER_ID: u8 = packet::codes::USER_ID as u8;
@@ -37,10 +37,10 @@ fn put_word(s: &mut [u8], at: usize, word: u32) -> usize
 
 // Puts a User ID's field, its last word zeroed first so that the padding is zero, and gives the place past it.
 fn put_user(s: &mut [u8], at: usize, user: &[u8]) -> usize
-    requires { ⌜ (length (now user) ≤ 60) × (at + toWord (2 + length (now user)) ≤ length (now s)) ⌝ }
-    ensures { λ r. ⌜ (now (s .exit) ≡ putAt (now (s .entry)) at (laid (userContent (now (user .entry))))) × (r ≡ at + toWord (2 + length (now (user .entry)))) ⌝ }
+    requires { ⌜ (length (now user) ≤ 60) × (at + fieldSize (length (now user)) ≤ length (now s)) ⌝ }
+    ensures { λ r. ⌜ (now (s .exit) ≡ putAt (now (s .entry)) at (laid (userContent (now (user .entry))))) × (r ≡ at + fieldSize (length (now (user .entry)))) ⌝ }
 {
-    let size = (2 + user.len() + 3) / 4 * 4;
+    let size = field_size(user.len());
     octets::put_u32(s, at + size - 4, 0);
     s[at] = USER_ID;
     s[at + 1] = user.len() as u8;

@@ -10,9 +10,8 @@ use parts::Plan;
 use sheet::Refusal;
 use sheet::Sheet;
 ghost use mathlib.Core.Path.{_≡_};
-ghost use lib.ListN.{length};
-ghost use Rattle.writing.specs.Writing.{refusedWith, roomFor, said, writingSaid, after};
-ghost use Rattle.writing.specs.Inner.{planned};
+ghost use Rattle.writing.specs.Writing.{refusedWith, writingSaid};
+ghost use Rattle.writing.specs.Inner.{PlanWritten};
 ghost use Rattle.writing.specs.Promises.{write≡};
 
 // How many octets were written, or why none.
@@ -30,8 +29,7 @@ fn refused(number: u32) -> Writing
 
 // Writes what was planned, or 5 or 11. Everything is checked before the first store.
 fn write_plan(plan: Plan, names: &[u8], out: &mut [u8]) -> Writing
-    ensures { λ r. ⌜ (writingSaid r ≡ said (roomFor (length (now (out .entry))) (planned (now (names .entry)) plan)))
-        × (now (out .exit) ≡ after (roomFor (length (now (out .entry))) (planned (now (names .entry)) plan)) (now (out .entry))) ⌝ }
+    ensures { λ r. ⌜ PlanWritten (now (names .entry)) plan (now (out .entry)) r (now (out .exit)) ⌝ }
 {
     if !parts::are_right(plan, names) {
         return refused(5);

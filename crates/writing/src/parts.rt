@@ -2,10 +2,10 @@
 use packet::Name;
 use sheet::user::is_user_id;
 ghost use mathlib.Core.Path.{_≡_};
-ghost use Prim.Native.Nat.{_<_};
+ghost use Prim.Native.Nat.{_*_, _<_, _≤_};
 ghost use Rattle.packet.specs.Message.{nameSaid};
 ghost use Rattle.packet.specs.Claims.{nameRight};
-ghost use Rattle.writing.specs.Inner.{partRight, partSize, planRight, planSize};
+ghost use Rattle.writing.specs.Inner.{fieldSize, sizeBound, partRight, partSize, planRight, planSize};
 
 // A field to be written: none, one that fills a word, or a User ID.
 pub enum Part {
@@ -36,7 +36,7 @@ fn is_name_right(name: Name, names: &[u8]) -> bool
     is_user_id(&names[at..end])
 }
 
-// Whether some packet has the field: a name's place lies in `names`, and a User ID stands there.
+// Whether some packet has the field.
 fn is_right(part: Part, names: &[u8]) -> bool
     ensures { λ r. ⌜ r ≡ partRight (now (names .entry)) part ⌝ }
 {
@@ -63,20 +63,28 @@ pub fn are_right(plan: Plan, names: &[u8]) -> bool
     is_right(third, names)
 }
 
-// How many octets a field takes, with its padding.
+// How many octets a field takes whose value is so long, with its padding.
+pub fn field_size(len: usize) -> usize
+    requires { ⌜ len < 0x100000000 ⌝ }
+    ensures { λ r. ⌜ (r ≡ fieldSize len) × (r ≤ sizeBound) ⌝ }
+{
+    (2 + len + 3) / 4 * 4
+}
+
+// How many octets a field takes.
 fn part_size(part: Part) -> usize
-    ensures { λ r. ⌜ (r ≡ partSize part) × (r < 8589934592) ⌝ }
+    ensures { λ r. ⌜ (r ≡ partSize part) × (r ≤ sizeBound) ⌝ }
 {
     match part {
         Part::Absent => 0,
         Part::Word(_) => 4,
-        Part::Named(name) => (2 + (name.len as usize) + 3) / 4 * 4,
+        Part::Named(name) => field_size(name.len as usize),
     }
 }
 
 // How many octets the fields take.
 pub fn size_of(plan: Plan) -> usize
-    ensures { λ r. ⌜ (r ≡ planSize plan) × (r < 34359738368) ⌝ }
+    ensures { λ r. ⌜ (r ≡ planSize plan) × (r ≤ 3 * sizeBound) ⌝ }
 {
     let first = plan.first;
     let second = plan.second;

@@ -39,8 +39,8 @@ use Rattle.packet.proofs.Laws.Layouts.{length-laid, laid-id, laid-len, laid-con
 use Rattle.packet.proofs.Laws.Allowed.{uses}
 use Rattle.packet.proofs.Laws.Accepts.{accepts-exactly}
 use Rattle.writing.specs.Meaning.{Value, nothing, numeral, spelt, nowhere, valueIn, Meaning, meaning}
-use Rattle.writing.specs.Packet.{isName, isNumber, numberHeld, within, holds, isNothing, takes, takesAll, isOne, writable, octetsFor, contentsFor, headed, packetAs, kindWith, packetOf}
-use Rattle.writing.specs.Claims.{octets}
+use Rattle.writing.specs.Packet.{isName, isNumber, numberHeld, within, holds, isNothing, takes, takesAll, isOne, writable, octetsFor, contentsFor, withHeader, packetAs, kindWith, packetOf}
+use Rattle.writing.specs.Claims.{areOctets}
 use Rattle.writing.proofs.Laws.Kinds.{KindRight, kind-right, kind-found, kindWith-kind}
 use Rattle.writing.proofs.Laws.Grants.{grants-meant}
 use Rattle.writing.proofs.Laws.Front.{Front, header-says, header-octets}
@@ -68,11 +68,11 @@ octet x = ltb x 256
 -- at most 60 octets
 record Coded (xs : List ℕ) : Type 0 where
   short : length xs ≤ 60
-  bytes : T (octets xs)
+  bytes : T (areOctets xs)
 
 -- a name is
 coded-name : (xs : List ℕ) → T (userId xs) → Coded xs
-unfolding octets userId
+unfolding areOctets userId
 coded-name xs t =
     let few = leb (length xs) longestName in
     record {
@@ -86,12 +86,12 @@ coded-name xs t =
 
 -- so is a number of two octets
 coded-number : (n : ℕ) → Coded (bigOf 2 n)
-unfolding octets
+unfolding areOctets
 coded-number n = record { short = rw length-bigOf (omega arith); bytes = every-bigOf 2 n }
 
 -- so are a value octet and a zero octet
 coded-type : (n : ℕ) → T (within 1 n) → Coded (n ∷ 0 ∷ [])
-unfolding octets
+unfolding areOctets
 coded-type n t = record { short = omega arith; bytes = T-and (ltb n 256) true t tt }
 
 -- so is every value that a form holds
@@ -179,23 +179,23 @@ contents-ids grant rows values i t =
     rows values t i
 
 -- .. all octets
-laid-octets : (c : Content) → T (idRight c) → Coded (c .value) → T (octets (laid c))
-unfolding laid padded idRight octets
+laid-octets : (c : Content) → T (idRight c) → Coded (c .value) → T (areOctets (laid c))
+unfolding laid padded idRight areOctets
 laid-octets c i h =
     let xs = c .value in
     let id : c .id < 192 = ltb→lt (c .id) 192 i in
     let short = h .short in
     let zeros = toWord (2 + length xs) - length (c .id ∷ length xs ∷ xs) in
     every-both octet (c .id ∷ length xs ∷ xs) (replicate zeros 0)
-    (T-and (octet (c .id)) (octet (length xs) && octets xs) (lt→ltb (c .id) 256 (omega arith))
-    (T-and (octet (length xs)) (octets xs) (lt→ltb (length xs) 256 (omega arith)) (h .bytes)))
+    (T-and (octet (c .id)) (octet (length xs) && areOctets xs) (lt→ltb (c .id) 256 (omega arith))
+    (T-and (octet (length xs)) (areOctets xs) (lt→ltb (length xs) 256 (omega arith)) (h .bytes)))
     (every-replicate octet zeros 0 tt)
 
 pub contents-octets : (grant : Bool) (rows : List Row) (values : List Value) → T (every (λ (r : Row). ltb (r .id) 192) rows) → T (takesAll grant rows values)
-    → T (octets (laidAll (contentsFor rows values)))
-unfolding laidAll idsRight octets
+    → T (areOctets (laidAll (contentsFor rows values)))
+unfolding laidAll idsRight areOctets
 contents-octets grant rows values i t =
-    takes-ind grant (λ rs vs cs. T (idsRight cs) → T (octets (laidAll cs))) (λ k. tt)
+    takes-ind grant (λ rs vs cs. T (idsRight cs) → T (areOctets (laidAll cs))) (λ k. tt)
     (λ r rs vs cs m h. h)
     (λ r rs v vs cs m u h k.
     let c = contentFor r v in
@@ -412,7 +412,7 @@ module _ (s : Sheet) (v : T (validAlone s)) (m : Meaning) (p : List ℕ) (w : Wr
 
   -- its header says what it was made of
   pub packet-front : Front p (m .ack) (k .number) (m .ssrc) (k .letters) (laidAll contents)
-  unfolding packetAs headed
+  unfolding packetAs withHeader
   packet-front =
       subst (λ (q : List ℕ). Front q (m .ack) (k .number) (m .ssrc) (k .letters) (laidAll contents)) (sym (w .is))
       (header-says (m .ack) (k .number) (m .ssrc) (k .letters) (laidAll contents) (right .number) narrow (right .letters)
@@ -420,10 +420,10 @@ module _ (s : Sheet) (v : T (validAlone s)) (m : Meaning) (p : List ℕ) (w : Wr
       most)
 
   -- it is made of octets
-  packet-octets : T (octets p)
-  unfolding packetAs headed octets
+  packet-octets : T (areOctets p)
+  unfolding packetAs withHeader areOctets
   packet-octets =
-      subst (λ (q : List ℕ). T (octets q)) (sym (w .is))
+      subst (λ (q : List ℕ). T (areOctets q)) (sym (w .is))
       (header-octets (m .ack) (k .number) (m .ssrc) (k .letters) (laidAll contents) (right .number) narrow (right .letters)
       most
       (right .octets)
@@ -461,7 +461,7 @@ module _ (s : Sheet) (v : T (validAlone s)) (m : Meaning) (p : List ℕ) (w : Wr
 
 -- what is written is made of octets and reads back to the meaning
 pub packet-reads : (s : Sheet) → T (validAlone s) → (m : Meaning) (p : List ℕ) → packetOf (numbersOf s) m ≡ some p
-    → T (octets p) × (meaning p (readOf s p) ≡ some m)
+    → T (areOctets p) × (meaning p (readOf s p) ≡ some m)
 packet-reads s v m p e =
     let w = packetOf-written (numbersOf s) m p e in
     (packet-octets s v m p w, packet-means s v m p w)

@@ -34,9 +34,9 @@ use Rattle.packet.proofs.Laws.Fields.{coded, coded-says, every-coded}
 use Rattle.packet.proofs.Laws.Layouts.{laid-once, walk-meets}
 use Rattle.packet.proofs.Laws.Allowed.{uses, orderly, orderly-rest, arranged-used, allowed-ind, orderly-lack, first-allowed}
 use Rattle.writing.specs.Meaning.{Value, valueIn, Meaning}
-use Rattle.writing.specs.Packet.{numberHeld, isNothing, octetsFor, contentsFor, header, headed, kindWith, packetOf, packetAs}
+use Rattle.writing.specs.Packet.{numberHeld, isNothing, octetsFor, contentsFor, header, withHeader, kindWith, packetOf, packetAs}
 use Rattle.writing.specs.Canonical.{inOrder, bare, canonicalIn, canonical}
-use Rattle.writing.specs.Claims.{octets, ReadsTo}
+use Rattle.writing.specs.Claims.{areOctets, ReadsTo}
 use Rattle.writing.proofs.Laws.Kinds.{leads, gathered, kindWith-all, kind-right, kind-with}
 use Rattle.writing.proofs.Laws.Front.{length-header, header-is}
 use Rattle.writing.proofs.Laws.Back.{packet-reads}
@@ -166,14 +166,14 @@ module _ (p : List ℕ) where
   held-something Barred f t = absurd t
 
   -- two octets are those of the number that they make
-  number-value : T (octets p) → (f : Field) → T (coded p f) → T (eqb (f .len) 2) → valueOf p f ≡ bigOf 2 (numberAt p f)
-  unfolding valueOf numberAt octets
+  number-value : T (areOctets p) → (f : Field) → T (coded p f) → T (eqb (f .len) 2) → valueOf p f ≡ bigOf 2 (numberAt p f)
+  unfolding valueOf numberAt areOctets
   number-value o f c t =
       let two : f .len ≡ 2 = eqb→eq (f .len) 2 t in
       rw two (sym (bigOf-bigAt p (λ i. ltb→lt (getD p i 0) 256 (every-getD-or (λ (x : ℕ). ltb x 256) p i 0 o tt)) 2 (f .at + 2) (omega (arith, inside f c))))
 
   -- the octets of a field that has a form and is bare are those of its value
-  value-is : T (octets p) → (form : Form) (f : Field) → T (coded p f) → T (fits form p f) → T (bare form p f)
+  value-is : T (areOctets p) → (form : Form) (f : Field) → T (coded p f) → T (fits form p f) → T (bare form p f)
       → valueOf p f ≡ octetsFor form (valueIn p (heldIn form p f))
   unfolding fits bare heldIn valueIn valueOf octetsFor
   value-is o UserId f c t b = rw (T-true (leb (f .at + 2 + f .len) (length p)) (coded-says p f c .inside))
@@ -285,14 +285,14 @@ module _ (p : List ℕ) (grant : Bool) where
   laid-none r rows v values fs e l = rw e l
 
   -- a bare field is laid out as it stands
-  laid-some : T (octets p) → (r : Row) (rows : List Row) (f : Field) (v : Held) (values : List Value) (fs : List Field)
+  laid-some : T (areOctets p) → (r : Row) (rows : List Row) (f : Field) (v : Held) (values : List Value) (fs : List Field)
       → Allows p grant r (some f) v → T (coded p f) → T (bare (r .form) p f) → Laid p rows values fs → Laid p (r ∷ rows) (valueIn p v ∷ values) (f ∷ fs)
   unfolding contentsFor contentOf
   laid-some o r rows f v values fs a c b l =
       rw (a .3, held-something p (r .form) f (a .2), ← value-is p o (r .form) f c (a .2) b, a .1, l)
 
   -- fields in order that are bare and those chosen are those laid out
-  bare-laid : T (octets p) → (rows : List Row) (os : List (Option Field)) (held : List Held) → AllowsAll p grant rows os held
+  bare-laid : T (areOctets p) → (rows : List Row) (os : List (Option Field)) (held : List Held) → AllowsAll p grant rows os held
       → T (orderly rows) → T (gathered rows) → (fs : List Field) → T (inOrder p rows fs) → Bare rows os fs → Laid p rows (map (valueIn p) held) fs
   bare-laid o =
       allowed-ind p grant
@@ -329,9 +329,9 @@ kind-plain n kind k e =
 -- ---- packets that read to a meaning
 
 -- behind the header stand the fields
-drop-headed : (first ssrc : ℕ) (letters : List ℕ) (cs : List Content) → length letters ≡ 4 → drop firstField (headed first ssrc letters (laidAll cs)) ≡ laidAll cs
-unfolding headed
-drop-headed first ssrc letters cs four =
+drop-withHeader : (first ssrc : ℕ) (letters : List ℕ) (cs : List Content) → length letters ≡ 4 → drop firstField (withHeader first ssrc letters (laidAll cs)) ≡ laidAll cs
+unfolding withHeader
+drop-withHeader first ssrc letters cs four =
     let size = firstField + length (laidAll cs) in
     drop-at (header first size ssrc letters) (laidAll cs) firstField (length-header first size ssrc letters four)
 
@@ -353,8 +353,8 @@ module _ (s : Sheet) (p : List ℕ) (m : Meaning) (r : Says s p m) where
   AsLaid = contentsOf p ≡ contentsFor rows values
 
   -- so it is the meaning's packet
-  laid-packet : T (octets p) → AsLaid → packetAs (r .kind) m ≡ p
-  unfolding packetAs headed
+  laid-packet : T (areOctets p) → AsLaid → packetAs (r .kind) m ≡ p
+  unfolding packetAs withHeader
   laid-packet o l =
       let has = kind-with (numbersOf s) p (r .kind) (r .is) in
       ap (packetAs (r .kind)) (r .means)
@@ -369,7 +369,7 @@ module _ (s : Sheet) (p : List ℕ) (m : Meaning) (r : Says s p m) where
       laid-once (contentsOf p) (contentsFor rows values)
       (sym (walk-meets p (r .walked))
       ∙ ap (drop firstField) (sym e ∙ ap (packetAs (r .kind)) (r .means))
-      ∙ drop-headed _ _ (r .kind .letters) _ four)
+      ∙ drop-withHeader _ _ (r .kind .letters) _ four)
 
   -- a packet that is so laid out is canonical
   laid-canonical : AsLaid → T (canonicalIn rows p)
@@ -384,7 +384,7 @@ module _ (s : Sheet) (p : List ℕ) (m : Meaning) (r : Says s p m) where
       (every-field p pads (λ at h t. unfold fieldAt in right-padding p at t)))
 
   -- and a canonical one is so laid out
-  canonical-laid : T (octets p) → T (canonicalIn rows p) → AsLaid
+  canonical-laid : T (areOctets p) → T (canonicalIn rows p) → AsLaid
   unfolding canonicalIn contentsOf
   canonical-laid o t =
       let has = kind-with (numbersOf s) p (r .kind) (r .is) in

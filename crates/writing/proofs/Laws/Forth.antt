@@ -27,7 +27,7 @@ use Rattle.packet.proofs.Laws.Accepts.{readBy-is, accepts-exactly}
 use Rattle.packet.proofs.Laws.NamesInside.{names-right}
 use Rattle.writing.specs.Meaning.{valueIn, Meaning, meaning}
 use Rattle.writing.specs.Packet.{within, holds, isNothing, takes, takesAll, isOne as isOneMeant, packetOf, writable, packetAs}
-use Rattle.writing.specs.Claims.{octets, ReadsTo}
+use Rattle.writing.specs.Claims.{areOctets, ReadsTo}
 use Rattle.writing.proofs.Laws.Kinds.{kind-with}
 use Rattle.writing.proofs.Laws.Front.{octets-lt, ssrc-narrow}
 use Rattle.writing.proofs.Laws.Grants.{grants-meant}
@@ -118,7 +118,7 @@ reads-says s p m r =
 
 -- ---- its meaning is writable
 
-module _ (p : List ℕ) (o : T (octets p)) where
+module _ (p : List ℕ) (o : T (areOctets p)) where
   -- a 16-bit number goes into two octets
   number-narrow : (f : Field) → T (within 2 (numberAt p f))
   unfolding numberAt
@@ -171,7 +171,7 @@ module _ (p : List ℕ) (o : T (octets p)) where
       (rw (grants-meant p (k .rows) held) (rows-take (grants isOne (k .rows) held) (k .rows) chosen held i a))
 
 -- a meaning that a packet reads to has a packet, that of its kind
-pub reads-writable : (s : Sheet) (p : List ℕ) (m : Meaning) → T (octets p) → (r : Says s p m)
+pub reads-writable : (s : Sheet) (p : List ℕ) (m : Meaning) → T (areOctets p) → (r : Says s p m)
     → packetOf (numbersOf s) m ≡ some (packetAs (r .kind) m)
 unfolding packetOf
 reads-writable s p m o r =

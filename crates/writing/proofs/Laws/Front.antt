@@ -16,13 +16,13 @@ use Rattle.octets.proofs.Big.{length-bigOf, every-bigOf, bigAt-lt, bigAt-put, d
 use Rattle.packet.specs.Header.{firstField, word, sizeRight, versionRight, headRight, ackAsked, numberIn, ssrcIn, lettersIn}
 use Rattle.packet.proofs.Laws.Sized.{sized}
 use Rattle.writing.specs.Packet.{firstOctet, header}
-use Rattle.writing.specs.Claims.{octets}
+use Rattle.writing.specs.Claims.{areOctets}
 
 -- ---- octets
 
 -- each octet of a packet is one, and so is what stands for one past its end
-pub octets-lt : (p : List ℕ) → T (octets p) → (i : ℕ) → getD p i 0 < 256
-unfolding octets
+pub octets-lt : (p : List ℕ) → T (areOctets p) → (i : ℕ) → getD p i 0 < 256
+unfolding areOctets
 octets-lt p o i = ltb→lt (getD p i 0) 256 (every-getD-or (λ (x : ℕ). ltb x 256) p i 0 o tt)
 
 -- ---- the first octet
@@ -112,8 +112,8 @@ module _ (ack : Bool) (number ssrc : ℕ) (letters rest : List ℕ) (small : num
   }
 
   -- and is made of octets
-  pub header-octets : firstField + length rest ≤ 256 → T (octets letters) → T (octets rest) → T (octets packet)
-  unfolding octets header
+  pub header-octets : firstField + length rest ≤ 256 → T (areOctets letters) → T (areOctets rest) → T (areOctets packet)
+  unfolding areOctets header
   header-octets most l r =
       let octet : ℕ → Bool = λ x. ltb x 256 in
       let one : firstOctet ack number < 256 = omega (arith, first) in
@@ -150,7 +150,7 @@ head-says p t =
     }
 
 -- the front of a packet past checks 1 and 2 is the header of what it says
-pub header-is : (p : List ℕ) → T (octets p) → T (sizeRight p) → T (headRight p)
+pub header-is : (p : List ℕ) → T (areOctets p) → T (sizeRight p) → T (headRight p)
     → p ≡ header (firstOctet (ackAsked p) (numberIn p)) (firstField + length (drop firstField p)) (ssrcIn p) (lettersIn p) ++ drop firstField p
 unfolding header bigOf ssrcIn lettersIn
 header-is p o s h =
@@ -162,6 +162,6 @@ header-is p o s h =
     cc (drop-cons p 0 0 (omega arith), drop-cons p 1 0 (omega arith), drop-bigAt p lt 2 2 (omega arith), drop-bigAt p lt 4 4 (omega arith), take-append-drop 4 (drop 8 p), drop-drop 4 8 p)
 
 -- and its SSRC goes into four octets
-pub ssrc-narrow : (p : List ℕ) → T (octets p) → ssrcIn p < 256 ^ 4
+pub ssrc-narrow : (p : List ℕ) → T (areOctets p) → ssrcIn p < 256 ^ 4
 unfolding ssrcIn
 ssrc-narrow p o = bigAt-lt 4 p 4 (octets-lt p o)

@@ -10,7 +10,7 @@ use Rattle.sheet.specs.Table.{mostSeats}
 use Rattle.sheet.specs.Value.{sheetFrom}
 use Rattle.sheet.specs.Promises.{valid≡}
 use Rattle.sheet.proofs.Laws.Values.{sheetFrom-own, judged-own}
-use Rattle.writing.specs.Writing.{writeOf, said, after}
+use Rattle.writing.specs.Writing.{writeOf, told, after}
 use Rattle.writing.proofs.Laws.Plans.{planned-is}
 use Rattle.writing.proofs.write.Statement.{statement}
 use Rattle.writing.proofs.write.Tie as tie
@@ -34,7 +34,7 @@ refused-requires : tie.Need-refused-requires
 refused-requires c κs = search needs
 
 returns : tie.Need-returns
-unfolding writeOf said after
+unfolding writeOf told after
 returns c =
     rw (sym (judged (c .before .before)) ∙ not-true _ (c .before .if1 .taken)) (c .refused .ensures, refl)
 

@@ -17,8 +17,8 @@ use Rattle.octets.proofs.Big.{length-bigOf}
 use Rattle.octets.proofs.Buffer.{part-over}
 use Rattle.packet.specs.Header.{firstField}
 use Rattle.writing.specs.declared.parts.Plan.{Plan}
-use Rattle.writing.specs.Packet.{header, headed}
-use Rattle.writing.specs.Writing.{made, refused, roomFor, said, after}
+use Rattle.writing.specs.Packet.{header, withHeader}
+use Rattle.writing.specs.Writing.{made, refused, roomFor, told, after}
 use Rattle.writing.specs.Inner.{planOctets, planRight, planSize, planned}
 use Rattle.writing.proofs.Laws.Front.{length-header}
 use Rattle.writing.proofs.Laws.Parts.{plan-length, plan-most}
@@ -46,12 +46,12 @@ module _ (names : List ℕ) (plan : Plan) where
 
     -- less room than that
     no-room : (room : ℕ) → room < 12 + planSize plan → roomFor room (planned names plan) ≡ refused 11 0
-    unfolding planned headed roomFor
+    unfolding planned withHeader roomFor
     no-room room h = rw (T-true (planRight names plan) t, lt-leb (length packet) room (omega (arith, length-packet)))
 
     -- room enough
     with-room : (room : ℕ) → 12 + planSize plan ≤ room → roomFor room (planned names plan) ≡ made packet
-    unfolding planned headed roomFor
+    unfolding planned withHeader roomFor
     with-room room h = rw (T-true (planRight names plan) t, le-leb (length packet) room (omega (arith, length-packet)))
 
 are-right-requires : tie.Need-are-right-requires
@@ -61,7 +61,7 @@ refused-requires : tie.Need-refused-requires
 refused-requires c κs = search needs
 
 returns : tie.Need-returns
-unfolding planned roomFor said after
+unfolding planned roomFor told after
 returns c =
     rw (sym (c .before .before .are-right .ensures) ∙ not-true _ (c .before .if1 .taken)) (c .refused .ensures, refl)
 
@@ -83,7 +83,7 @@ refused-requires-2 : tie.Need-refused-requires-2
 refused-requires-2 c κs = search needs
 
 returns-2 : tie.Need-returns-2
-unfolding said after
+unfolding told after
 returns-2 c =
     let sized = c .before .before in
     let a = sized .before .before .before .before .before .args in
@@ -115,7 +115,7 @@ same-length : tie.Need-same-length
 same-length c = search needs
 
 returns-3 : tie.Need-returns-3
-unfolding said after
+unfolding told after
 returns-3 c =
     let put = c .before .before in
     let headed = put .before .before .before .before in

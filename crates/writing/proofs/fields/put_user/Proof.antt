@@ -9,20 +9,15 @@ use Rattle.writing.proofs.Laws.Parts.{puts-user}
 use Rattle.writing.proofs.fields.put_user.Statement.{statement}
 use Rattle.writing.proofs.fields.put_user.Tie as tie
 
-add-size : tie.Need-add-size
-add-size c = search needs
-
-add-size-2 : tie.Need-add-size-2
-add-size-2 c = search needs
-
-mul-size : tie.Need-mul-size
-mul-size c = search needs
+field-size-requires : tie.Need-field-size-requires
+field-size-requires c κs = search needs
 
 add-put-u32 : tie.Need-add-put-u32
 add-put-u32 c = search needs
 
 sub-put-u32 : tie.Need-sub-put-u32
-sub-put-u32 c = search needs
+unfolding toWord
+sub-put-u32 c = omega (arith, c .before .field-size .ensures .0)
 
 put-u32-requires : tie.Need-put-u32-requires
 put-u32-requires c κs = search needs
@@ -32,7 +27,8 @@ unfolding toWord
 slice-write-s c = omega (arith, c .before .before .put-u32 .kept .0)
 
 cast-s : tie.Need-cast-s
-cast-s c = search needs
+unfolding toWord
+cast-s c = omega (arith, c .before .before .before .before .field-size .ensures .0)
 
 add-s : tie.Need-add-s
 add-s c = search needs
@@ -60,17 +56,17 @@ returns : tie.Need-returns
 unfolding toWord
 returns c =
     let zeros = c .before .before .before .before .before .before in
-    let start = zeros .before .before .before .before in
+    let sized = zeros .before .before in
+    let start = sized .before .before .before in
     let a = start .args in
-    (rw (c .before .before .put-octets .ensures, zeros .put-u32 .ensures) (puts-user (a .s .now) (a .at) (a .user .now) (start .pre .1)), refl)
+    rw (sized .field-size .ensures .0)
+    (rw (c .before .before .put-octets .ensures, zeros .put-u32 .ensures, sized .field-size .ensures .0) (puts-user (a .s .now) (a .at) (a .user .now) (start .pre .1)), refl)
 
 pub put-user-spec : {M : Type 1} → statement M
 put-user-spec =
     tie.close
     (tie.spec
-    add-size
-    add-size-2
-    mul-size
+    field-size-requires
     add-put-u32
     sub-put-u32
     put-u32-requires

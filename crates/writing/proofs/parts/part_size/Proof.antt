@@ -1,7 +1,5 @@
 -- `writing::parts::part_size` meets its contract: a 32-bit length, with its two octets before it, filled up to whole words. Assumes nothing.
-use native.Mathlib.Omega.{arith}
 use borrow.Author.Needs.{needs}
-use Rattle.packet.specs.Walk.{toWord}
 use Rattle.writing.proofs.parts.part_size.Statement.{statement}
 use Rattle.writing.proofs.parts.part_size.Tie as tie
 
@@ -14,17 +12,11 @@ enum-told-2 c = search needs
 enum-known-part : tie.Need-enum-known-part
 enum-known-part c = search needs
 
-cast-result : tie.Need-cast-result
-cast-result c = search needs
+cast-field-size : tie.Need-cast-field-size
+cast-field-size c = search needs
 
-add-result : tie.Need-add-result
-add-result c = search needs
-
-add-result-2 : tie.Need-add-result-2
-add-result-2 c = search needs
-
-mul-result : tie.Need-mul-result
-mul-result c = search needs
+field-size-requires : tie.Need-field-size-requires
+field-size-requires c κs = search needs
 
 returns : tie.Need-returns
 returns c = search needs
@@ -33,8 +25,7 @@ returns-2 : tie.Need-returns-2
 returns-2 c = search needs
 
 returns-3 : tie.Need-returns-3
-unfolding toWord
-returns-3 c = (rw (c .before .before .part .given .1), omega arith)
+returns-3 c = rw (c .before .before .before .part .given .1) (c .field-size .ensures)
 
 pub part-size-spec : {M : Type 1} → statement M
 part-size-spec =
@@ -43,10 +34,8 @@ part-size-spec =
     enum-told
     enum-told-2
     enum-known-part
-    cast-result
-    add-result
-    add-result-2
-    mul-result
+    cast-field-size
+    field-size-requires
     returns
     returns-2
     returns-3)
