@@ -27,34 +27,22 @@ pub fn fill(buffer: &mut [u8]) {
     }
 }
 
-// A count, or the most that it may be.
-fn at_most(count: usize, most: usize) -> usize
-    ensures { λ r. ⌜ r ≤ most ⌝ }
-{
-    if count < most { count } else { most }
-}
-
-fn put_result(out: &mut [u8], written: usize, refusal: Refusal) {
-    number::put_long(out, 0, written);
-    octets::put_u32(out, 8, refusal.number);
-    octets::put_u32(out, 12, refusal.at);
-}
-
-// Puts before a buffer that ends at a place what was written, and behind it what that reads to. Gives how many octets stand behind it.
+// Puts how many octets were written before a buffer that ends at a place, and what they read to behind it. Gives how many octets
+// were put behind it.
 pub fn put_writing(out: &mut [u8], end: usize, sheet: Sheet, writing: Writing) -> usize
     requires { ⌜ (16 ≤ end) × (end + 48 ≤ length (now out)) ⌝ }
     ensures { λ r. ⌜ r ≤ 48 ⌝ }
 {
     match writing {
         Writing::Written(written) => {
-            put_result(out, written, NOT_REFUSED);
-            let size = at_most(written, end - START);
+            number::put_result(out, 0, written, NOT_REFUSED);
+            let size = number::at_most(written, end - START);
             let reading = packet::read(sheet, &out[START..START + size]);
             message::put_reading(&mut out[end..], reading);
             message::LENGTH
         }
         Writing::Refused(refusal) => {
-            put_result(out, 0, refusal);
+            number::put_result(out, 0, 0, refusal);
             0
         }
     }

@@ -1,6 +1,14 @@
 // Numbers among the octets of a case or an answer, big-endian.
+use sheet::Refusal;
 ghost use Prim.Native.Nat.{_+_, _<_, _≤_};
 ghost use lib.ListN.{length};
+
+// A number, or the most that it may be.
+pub fn at_most(n: usize, most: usize) -> usize
+    ensures { λ r. ⌜ (r ≤ n) × (r ≤ most) ⌝ }
+{
+    if n < most { n } else { most }
+}
 
 // The k-th of some numbers of four octets.
 pub fn nth(body: &[u8], k: usize) -> u32
@@ -45,4 +53,13 @@ pub fn put_long(out: &mut [u8], at: usize, n: usize)
 {
     octets::put_u32(out, at, (n / 4294967296) as u32);
     octets::put_u32(out, at + 4, (n % 4294967296) as u32);
+}
+
+// Puts at a place how many octets were read or written (eight octets), and the refusal's number and place (four each).
+pub fn put_result(out: &mut [u8], at: usize, count: usize, refusal: Refusal)
+    requires { ⌜ at < 1000 ⌝ }
+{
+    put_long(out, at, count);
+    octets::put_u32(out, at + 8, refusal.number);
+    octets::put_u32(out, at + 12, refusal.at);
 }

@@ -38,9 +38,7 @@ pub fn read(text: &[u8], out: &mut [u8]) -> usize
     let users = sheet::users(text);
     value::put_sheet(out, read);
     value::put_users(out, &users);
-    number::put_long(out, value::LENGTH, used);
-    octets::put_u32(out, value::LENGTH + 8, refusal.number);
-    octets::put_u32(out, value::LENGTH + 12, refusal.at);
+    number::put_result(out, value::LENGTH, used, refusal);
     value::LENGTH + 16
 }
 
@@ -101,7 +99,7 @@ pub fn is_user_id(body: &[u8], out: &mut [u8]) -> usize
 fn room_in(out: &[u8]) -> usize
     ensures { λ r. ⌜ (r ≤ 1020) × (r ≤ length (now (out .entry))) ⌝ }
 {
-    if MOST < out.len() { MOST } else { out.len() }
+    number::at_most(out.len(), MOST)
 }
 
 // The count at a place, two octets, of the octets behind it; or how many there are, if they are fewer.
@@ -109,9 +107,7 @@ fn count_at(body: &[u8], at: usize) -> usize
     requires { ⌜ at + 2 ≤ length (now body) ⌝ }
     ensures { λ r. ⌜ at + 2 + r ≤ length (now (body .entry)) ⌝ }
 {
-    let count = octets::u16_at(body, at) as usize;
-    let rest = body.len() - at - 2;
-    if count < rest { count } else { rest }
+    number::at_most(octets::u16_at(body, at) as usize, body.len() - at - 2)
 }
 
 // 6: what each packet reads to under the numbers of a value. The packets stand behind those, each behind its count.
@@ -162,8 +158,8 @@ pub fn fields(body: &[u8], out: &mut [u8]) -> usize
     put
 }
 
-// 8: what is written of a message under the numbers of a value. Behind those stand the message, the length of the buffer, four
-// octets, and the octets that the message's names lie in. The answer is the buffer's (buffer.rt).
+// 8: what is written of a message under the numbers of a value, into a buffer that was filled. Behind the numbers stand the message,
+// the length of the buffer (four octets), and the octets that the message's names lie in. The answer: buffer.rt.
 pub fn write(body: &[u8], out: &mut [u8]) -> usize
     ensures { λ r. ⌜ r ≤ 1020 ⌝ }
 {

@@ -14,24 +14,29 @@ pub struct Comparison {
     tally: Tally,
 }
 
+/// What a case asks, cut where it is long.
+fn asked(case: &Case) -> String {
+    format!("{:.1500}", shown::case(case))
+}
+
 /// What a case asked and both answers, shown for its first part that differs.
 fn show_difference(case: &Case, got: Option<&[u8]>) {
     let Some(mut rest) = got else {
-        println!("  no answer to {:.1500}", shown::case(case));
+        println!("  no answer to {}", asked(case));
         return;
     };
     for part in case.parts() {
         let expected = part.answer().body();
         let (got, behind) = rest.split_at(expected.len().min(rest.len()));
         if got != expected {
-            println!("  asked: {:.1500}", shown::case(&part));
+            println!("  asked: {}", asked(&part));
             println!("  second program: {}", shown::answer(&part, &expected));
             println!("  proved program: {}", shown::answer(&part, got));
             return;
         }
         rest = behind;
     }
-    println!("  {} octets too many in the answer to {:.1500}", rest.len(), shown::case(case));
+    println!("  {} octets too many in the answer to {}", rest.len(), asked(case));
 }
 
 /// Whether what was written, if something was, reads back to what the message says.
@@ -58,7 +63,7 @@ impl Comparison {
         }
         println!("case {} differs", self.cases);
         if agree {
-            println!("  reads back as another message: {:.1500}", shown::case(case));
+            println!("  reads back as another message: {}", asked(case));
         } else {
             show_difference(case, got);
         }
@@ -76,5 +81,52 @@ impl Comparison {
         }
         println!("{} cases compared; {} differ", self.cases, self.different);
         self.different == 0 && enough && answers.is_empty()
+    }
+}
+
+#[cfg(test)]
+mod tests {
+    use super::*;
+    use crate::bench::{messages, sheet_s, NAMES};
+    use crate::drafts::replaced;
+    use crate::packet::Message;
+    use crate::sample;
+
+    /// Whether an answer is seen to differ; nothing is shown.
+    fn differs(case: &Case, got: Option<&[u8]>) -> bool {
+        let mut comparison = Comparison { different: SHOWN, ..Comparison::default() };
+        comparison.one(case, got);
+        comparison.different > SHOWN
+    }
+
+    #[test]
+    fn every_octet_of_an_answer_counts() {
+        for case in sample::cases() {
+            let body = case.answer().body();
+            assert!(!differs(&case, Some(&body)));
+            for (at, octet) in body.iter().enumerate() {
+                assert!(differs(&case, Some(&replaced(&body, at, !octet))), "octet {at} of {}", asked(&case));
+            }
+            assert!(differs(&case, Some(&body[1..])) && differs(&case, Some(&[&body[..], &[0]].concat())));
+            assert!(differs(&case, None));
+        }
+    }
+
+    #[test]
+    fn another_message_read_back_is_seen() {
+        let request = messages()[2].clone();
+        let case = |message: &Message| Case::Write(sheet_s(), message.clone(), NAMES.to_vec(), 32);
+        let written = case(&request);
+        assert!(reads_back(&written, &written.answer()));
+        let others = [
+            Message { ssrc: 3, ..request.clone() },
+            Message { ack: true, ..request.clone() },
+            Message { user: Some(0..5), ..request.clone() },
+            Message { named: Some(0..4), ..request.clone() },
+            Message { indicator: Some(0), ..request },
+        ];
+        for other in others {
+            assert!(!reads_back(&case(&other), &written.answer()), "{other:?}");
+        }
     }
 }

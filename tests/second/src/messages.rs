@@ -16,7 +16,7 @@ pub const PAST: usize = 8;
 const SORTS: usize = 20;
 
 /// How many messages a sheet by chance has.
-const PER_SHEET: usize = 5;
+const PER_SHEET: usize = 10;
 
 /// The message under a sheet with a set of faults: bit 0 is for refusal 5, bit 1 for 11.
 fn with_faults(random: &mut Random, sheet: &Sheet, message: &ToWrite, set: usize) -> Case {
@@ -50,7 +50,7 @@ fn all(random: &mut Random, sheet: &Sheet) -> Vec<ToWrite> {
 fn under_other_values(random: &mut Random) -> Vec<Case> {
     let sheet = good::sheet(random, SEATS / 2);
     let mut cases = vec![];
-    for value in values::with_other_numbers(&sheet).into_iter().chain(values::with_other_ssrcs(&sheet)) {
+    for value in values::with_other_numbers_or_ssrcs(&sheet) {
         for kind in kinds() {
             let (message, set) = (any(random, &sheet, kind), random.below(4));
             cases.push(with_faults(random, &value, &message, set));

@@ -153,7 +153,7 @@ fn of_kind(random: &mut Random, sheet: &Sheet, kind: u32) -> Vec<Octets> {
 fn under_other_values(random: &mut Random) -> Vec<Case> {
     let sheet = good::sheet(random, SEATS / 2);
     let mut cases = vec![];
-    for value in values::with_other_numbers(&sheet).into_iter().chain(values::with_other_ssrcs(&sheet)) {
+    for value in values::with_other_numbers_or_ssrcs(&sheet) {
         let mut packets: Vec<Octets> = kinds().map(|kind| mixed(random, &sheet, kind).octets()).collect();
         packets.extend([vec![], any(random, &sheet), any(random, &sheet)]);
         cases.extend(wire::packet_cases(&value, &packets));

@@ -11,11 +11,12 @@ use std::collections::{BTreeMap, BTreeSet};
 /// The last line of the longest sheet.
 const LAST_LINE: u32 = (KEYS.len() + SEATS) as u32;
 
-/// There have to be so many packets and so many messages to write, and of each sort of them, under so many sheets.
-const PACKETS: usize = 200_000;
-const MESSAGES: usize = 100_000;
-const EACH: usize = 1_000;
-const SHEETS: usize = 50;
+/// There have to be so many packets read or refused, and so many messages written; so many of each sort of them; and
+/// so many sheets for either.
+const LEAST_PACKETS: usize = 200_000;
+const LEAST_WRITTEN: usize = 100_000;
+const LEAST_EACH: usize = 1_000;
+const LEAST_SHEETS: usize = 50;
 
 /// The kinds whose messages have names.
 const NAMED: [u32; 3] = [1, 3, 4];
@@ -30,8 +31,8 @@ pub struct Tally {
     read_under: Sheets,
     /// under which good sheets messages were written
     written_under: Sheets,
-    /// how long the buffers were for each packet of a kind, up to a little past it
-    rooms: BTreeMap<(u32, Octets), BTreeSet<usize>>,
+    /// how long the buffers were for each packet of a shape, up to a little past it
+    rooms: BTreeMap<(String, Octets), BTreeSet<usize>>,
 }
 
 /// What a case, or each part of it, turned out to be.
@@ -107,24 +108,32 @@ fn wanted_of_packets() -> Vec<String> {
     wanted
 }
 
-/// All that messages to write have to turn out to be: each shape written, and each refusal that a kind can have.
-fn wanted_of_messages() -> Vec<String> {
-    let mut wanted = vec![];
+/// Every shape of every kind.
+fn shapes() -> Vec<String> {
+    let mut shapes = vec![];
     for kind in kinds() {
         let results: &[Option<u16>] = if kind == 2 { &[Some(0), Some(1)] } else { &[None] };
         let indicators: &[Option<u16>] = if INDICATED.contains(&kind) { &[None, Some(0)] } else { &[None] };
         for result in results {
             let shaped = |indicator| shape(&Message { kind, result: *result, indicator, ..Message::default() });
-            wanted.extend(indicators.iter().map(|indicator| format!("messages written, {}", shaped(*indicator))));
+            shapes.extend(indicators.iter().map(|indicator| shaped(*indicator)));
         }
+    }
+    shapes
+}
+
+/// All that messages to write have to turn out to be: each shape written, and each refusal that a kind can have.
+fn wanted_of_messages() -> Vec<String> {
+    let mut wanted: Vec<String> = shapes().iter().map(|shape| format!("messages written, {shape}")).collect();
+    for kind in kinds() {
         let refusals: &[u32] = if NAMED.contains(&kind) { &[5, 11, 12] } else { &[11, 12] };
         wanted.extend(refusals.iter().map(|refusal| format!("messages refused, {refusal:2}, kind {kind}")));
     }
     wanted
 }
 
-fn every_buffer(kind: u32) -> String {
-    format!("buffers of every length, kind {kind}")
+fn every_buffer(shape: &str) -> String {
+    format!("buffers of every length, {shape}")
 }
 
 impl Tally {
@@ -140,21 +149,22 @@ impl Tally {
             }
             (Case::Write(sheet, message, names, room), Answer::Write(writing, ..)) if *writing != Err(12) => {
                 self.written_under.insert((sheet.numbers, sheet.ssrcs));
-                self.note_room(message.kind, writer::packet_of(sheet, message, names), *room);
+                self.note_room(shape(message), writer::packet_of(sheet, message, names), *room);
             }
             _ => (),
         }
     }
 
     /// Notes how long a packet's buffer was, and counts the packet once there was every length.
-    fn note_room(&mut self, kind: u32, packet: Option<Octets>, room: usize) {
+    fn note_room(&mut self, shape: String, packet: Option<Octets>, room: usize) {
         let Some(packet) = packet else {
             return;
         };
         let most = packet.len() + PAST;
-        let rooms = self.rooms.entry((kind, packet)).or_default();
+        let every = every_buffer(&shape);
+        let rooms = self.rooms.entry((shape, packet)).or_default();
         if room <= most && rooms.insert(room) && rooms.len() == most + 1 {
-            self.count(every_buffer(kind));
+            self.count(every);
         }
     }
 
@@ -168,15 +178,15 @@ impl Tally {
         let met = |sort: &String| self.counts.get(sort).copied().unwrap_or(0);
         let each = |sorts: Vec<String>, least| sorts.into_iter().map(move |sort| (met(&sort), sort, least));
         let mut wanted = vec![
-            (self.sum("packets"), "packets".to_string(), PACKETS),
-            (self.read_under.len(), "sheets with packets".to_string(), SHEETS),
-            (self.sum("messages"), "messages".to_string(), MESSAGES),
-            (self.written_under.len(), "sheets with messages".to_string(), SHEETS),
+            (self.sum("packets"), "packets".to_string(), LEAST_PACKETS),
+            (self.read_under.len(), "sheets with packets".to_string(), LEAST_SHEETS),
+            (self.sum("messages written"), "messages written".to_string(), LEAST_WRITTEN),
+            (self.written_under.len(), "sheets with messages".to_string(), LEAST_SHEETS),
         ];
         wanted.extend(each(wanted_of_sheets(), 1));
-        wanted.extend(each(wanted_of_packets(), EACH));
-        wanted.extend(each(wanted_of_messages(), EACH));
-        wanted.extend(each(kinds().map(every_buffer).collect(), 1));
+        wanted.extend(each(wanted_of_packets(), LEAST_EACH));
+        wanted.extend(each(wanted_of_messages(), LEAST_EACH));
+        wanted.extend(each(shapes().iter().map(|shape| every_buffer(shape)).collect(), 1));
         wanted.retain(|(met, _, least)| met < least);
         wanted.into_iter().map(|(met, sort, least)| format!("{sort}: {met}, and not {least}")).collect()
     }
@@ -190,11 +200,11 @@ impl Tally {
         for sort in &missing {
             println!("too few: {sort}");
         }
-        let (texts, packets, messages, fields) =
-            (self.sum("texts"), self.sum("packets"), self.sum("messages"), self.sum("field"));
-        let (read, written) = (self.read_under.len(), self.written_under.len());
-        println!("{texts} texts of sheets; {packets} packets under {read} sheets; {fields} field steps");
-        println!("{messages} messages to write under {written} sheets");
+        let (texts, packets, fields) = (self.sum("texts"), self.sum("packets"), self.sum("field"));
+        let (messages, written) = (self.sum("messages"), self.sum("messages written"));
+        let (read_under, written_under) = (self.read_under.len(), self.written_under.len());
+        println!("{texts} texts of sheets; {packets} packets under {read_under} sheets; {fields} field steps");
+        println!("{messages} messages to write under {written_under} sheets; {written} written and read back");
         missing.is_empty()
     }
 }

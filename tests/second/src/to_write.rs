@@ -9,7 +9,7 @@ use crate::writer;
 use std::ops::Range;
 
 /// The longest packet that is written: a header, two names with their padding, and an Indicator.
-const LONGEST: usize = HEAD + 2 * (WIDTH + 4) + 4;
+const LONGEST_WRITTEN: usize = HEAD + 2 * (WIDTH + 4) + 4;
 
 /// How many octets may stand before a name.
 const MANY: usize = 65000;
@@ -50,7 +50,7 @@ impl ToWrite {
 
     /// The length of its packet, or of the longest where no packet reads to it.
     pub fn size(&self, sheet: &Sheet) -> usize {
-        writer::packet_of(sheet, &self.values, &self.names).map_or(LONGEST, |packet| packet.len())
+        writer::packet_of(sheet, &self.values, &self.names).map_or(LONGEST_WRITTEN, |packet| packet.len())
     }
 
     pub fn case(&self, sheet: &Sheet, room: usize) -> Case {
@@ -105,7 +105,7 @@ fn other_places(count: usize, good: &Range<usize>) -> Vec<Range<usize>> {
     places.into_iter().map(|(at, length)| at.min(most)..at.min(most) + length.min(most)).collect()
 }
 
-/// Messages with one name in another place, or of another length.
+/// Messages with one name in another place, or of another length, or whose names are cut off.
 fn with_other_places(message: &ToWrite) -> Vec<ToWrite> {
     let mut others = vec![];
     for (k, good) in message.clone().places().into_iter().enumerate() {
@@ -117,6 +117,7 @@ fn with_other_places(message: &ToWrite) -> Vec<ToWrite> {
         });
         let lengths = (0..WIDTH + 4).chain([2 * WIDTH, 3 * WIDTH]);
         others.extend(lengths.map(|length| long.but(|other| *other.places()[k] = 3..3 + length)));
+        others.extend([0, good.end - 1, good.end].map(|end| message.but(|other| other.names.truncate(end))));
         others.push(message.but(|other| {
             other.names.resize(MANY, 0);
             other.names.extend(&message.names[good.clone()]);

@@ -13,7 +13,7 @@ fn but(sheet: &Sheet, change: impl FnOnce(&mut Sheet)) -> Sheet {
 }
 
 /// Values with another number in one place, at and about its bounds and those of a word.
-pub fn with_other_numbers(sheet: &Sheet) -> Vec<Sheet> {
+fn with_other_numbers(sheet: &Sheet) -> Vec<Sheet> {
     let mut values = vec![];
     for key in KEYS {
         let (least, greatest) = sheet::bounds(key);
@@ -31,7 +31,7 @@ pub fn with_other_numbers(sheet: &Sheet) -> Vec<Sheet> {
 }
 
 /// Values with another SSRC in one row, used or not.
-pub fn with_other_ssrcs(sheet: &Sheet) -> Vec<Sheet> {
+fn with_other_ssrcs(sheet: &Sheet) -> Vec<Sheet> {
     let mut values = vec![];
     for s in 0..SEATS {
         let mut ssrcs = sheet.ssrcs.to_vec();
@@ -39,6 +39,11 @@ pub fn with_other_ssrcs(sheet: &Sheet) -> Vec<Sheet> {
         values.extend(ssrcs.into_iter().map(|ssrc| but(sheet, |other| other.ssrcs[s] = ssrc)));
     }
     values
+}
+
+/// Values with another number or another SSRC in one place.
+pub fn with_other_numbers_or_ssrcs(sheet: &Sheet) -> Vec<Sheet> {
+    [with_other_numbers(sheet), with_other_ssrcs(sheet)].concat()
 }
 
 /// Values with another User ID in one row, used or not: one octet changed, or all of it.
@@ -63,8 +68,7 @@ pub fn systematic(random: &mut Random) -> Vec<Sheet> {
     let mut values = vec![Sheet::ZERO, ones, good::longest()];
     for seats in 1..=SEATS {
         let sheet = good::sheet(random, seats);
-        values.extend(with_other_numbers(&sheet));
-        values.extend(with_other_ssrcs(&sheet));
+        values.extend(with_other_numbers_or_ssrcs(&sheet));
         values.extend(with_other_users(&sheet));
         values.push(sheet);
     }

@@ -48,7 +48,7 @@ fn needed(sheet: &Sheet, message: &Message, names: &[u8]) -> Option<Vec<Part>> {
     })
 }
 
-/// The packet of a message under a good sheet, if some packet reads to the message.
+/// The packet, under a good sheet, of a message that has the values of its kind and no others; none if a name is not right.
 pub fn packet_of(sheet: &Sheet, message: &Message, names: &[u8]) -> Option<Octets> {
     let mut fields = needed(sheet, message, names)?;
     fields.extend(number(INDICATOR, message.indicator));
