@@ -93,6 +93,11 @@ kinds-right n p = (
   ),
 )
 
+-- the rows of a packet's kind are in order
+pub kind-orderly : (n : Numbers) (p : List ℕ) (k : Kind) → kindOf n p ≡ some k → T (orderly (k .rows))
+unfolding kindOf
+kind-orderly n p k e = first-all (hasKind p) k (KindRight n p) (kinds n) (kinds-right n p) e .0 .0
+
 -- ---- reading
 
 -- past checks 1 to 4 it is the judging

@@ -33,7 +33,6 @@ use Rattle.packet.specs.Kind.{Row, Kind, kinds, kindOf, numbersOf, mayLack, may
 use Rattle.packet.specs.Judge.{Held, absent, numberAt, fits, heldIn, fieldsWith}
 use Rattle.packet.specs.Reading.{reads, readBy, readOf}
 use Rattle.packet.specs.Claims.{Headed, useful, present, AllowsAll, isOne as isOneHeld}
-use Rattle.packet.proofs.Laws.Sized.{sized}
 use Rattle.packet.proofs.Laws.Walk.{right-end, right-inside, fieldsFrom-right, fieldsFrom-wrong}
 use Rattle.packet.proofs.Laws.Layouts.{length-laid, laid-id, laid-len, laid-content, laid-rest, laid-right, whole-exactly}
 use Rattle.packet.proofs.Laws.Allowed.{uses}
@@ -342,11 +341,11 @@ module _ (p : List ℕ) (grant : Bool) where
           means = rw (mean .1, h .means);
         }
 
-pub fields-mean : (p : List ℕ) (grant : Bool) (rows : List Row) (values : List Value) (at : ℕ) → at ≤ length p
+pub fields-mean : (p : List ℕ) (grant : Bool) (rows : List Row) (values : List Value) (at : ℕ)
     → T (every (λ (r : Row). ltb (r .id) 192) rows) → T (takesAll grant rows values)
     → drop at p ≡ laidAll (contentsFor rows values) → FieldsMean p grant rows values at
 unfolding laidAll idsRight
-fields-mean p grant rows values at l i t e =
+fields-mean p grant rows values at i t e =
     takes-ind grant
     (λ rs vs cs. (a : ℕ) → T (idsRight cs) → drop a p ≡ laidAll cs → FieldsMean p grant rs vs a)
     (λ a k q. mean-none p grant a q)
@@ -425,7 +424,6 @@ module _ (s : Sheet) (v : T (validAlone s)) (m : Meaning) (p : List ℕ) (w : Wr
   packet-octets =
       subst (λ (q : List ℕ). T (areOctets q)) (sym (w .is))
       (header-octets (m .ack) (k .number) (m .ssrc) (k .letters) (laidAll contents) (right .number) narrow (right .letters)
-      most
       (right .octets)
       (contents-octets grant (k .rows) (m .values) (right .ids) takes-all))
 
@@ -436,7 +434,7 @@ module _ (s : Sheet) (v : T (validAlone s)) (m : Meaning) (p : List ℕ) (w : Wr
   -- its fields mean the values
   pub packet-fields : FieldsMean p grant (k .rows) (m .values) firstField
   packet-fields =
-      fields-mean p grant (k .rows) (m .values) firstField (sized p (packet-front .size) .least) (right .ids) takes-all (packet-front .rest)
+      fields-mean p grant (k .rows) (m .values) firstField (right .ids) takes-all (packet-front .rest)
 
   -- it is read
   packet-read : readBy (numbersOf s) p ≡ reads (k .kind) (ssrcIn p) (ackAsked p) (packet-fields .held)

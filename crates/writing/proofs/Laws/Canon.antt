@@ -37,10 +37,11 @@ use Rattle.writing.specs.Meaning.{Value, valueIn, Meaning}
 use Rattle.writing.specs.Packet.{numberHeld, isNothing, octetsFor, contentsFor, header, withHeader, kindWith, packetOf, packetAs}
 use Rattle.writing.specs.Canonical.{inOrder, bare, canonicalIn, canonical}
 use Rattle.writing.specs.Claims.{areOctets, ReadsTo}
-use Rattle.writing.proofs.Laws.Kinds.{leads, gathered, kindWith-all, kind-right, kind-with}
-use Rattle.writing.proofs.Laws.Front.{length-header, header-is}
+use Rattle.packet.proofs.Laws.Accepts.{kind-orderly}
+use Rattle.writing.proofs.Laws.Kinds.{ahead, gathered, kind-right, kind-with}
+use Rattle.writing.proofs.Laws.Front.{octets-lt, length-header, header-is}
 use Rattle.writing.proofs.Laws.Back.{packet-reads}
-use Rattle.writing.proofs.Laws.Forth.{Says, reads-says, reads-writable}
+use Rattle.writing.proofs.Laws.Forth.{Says, held-something, reads-says, reads-writable}
 
 -- ---- any lists
 
@@ -64,10 +65,6 @@ module _ {A : Type 0} (p : A → Bool) where
 own-first : (id : ℕ) (f : Field) (fs : List Field) → f .id ≡ id → getElem? (fieldsWith id (f ∷ fs)) 0 ≡ some f
 unfolding fieldsWith
 own-first id f fs e = rw (e, T-true (eqb id id) (eqb-refl id))
-
--- rows with the ID come first or not at all
-abbrev ahead : ℕ → List Row → Bool
-ahead id rows = leads id rows || not (uses id rows)
 
 module _ (p : List ℕ) where
   -- where there are no fields, they are in order
@@ -155,22 +152,12 @@ module _ (p : List ℕ) where
 
   -- ---- as it stands
 
-  -- the value of a field that has a form is not nothing
-  held-something : (form : Form) (f : Field) → T (fits form p f) → isNothing (valueIn p (heldIn form p f)) ≡ false
-  unfolding fits heldIn valueIn isNothing
-  held-something UserId f t = pick-cases (λ v. isNothing v ≡ false) (leb (f .at + 2 + f .len) (length p)) _ _ (λ u. refl) (λ e. refl)
-  held-something Number f t = refl
-  held-something Cause f t = refl
-  held-something Result f t = refl
-  held-something MessageType f t = refl
-  held-something Barred f t = absurd t
-
   -- two octets are those of the number that they make
   number-value : T (areOctets p) → (f : Field) → T (coded p f) → T (eqb (f .len) 2) → valueOf p f ≡ bigOf 2 (numberAt p f)
-  unfolding valueOf numberAt areOctets
+  unfolding valueOf numberAt
   number-value o f c t =
       let two : f .len ≡ 2 = eqb→eq (f .len) 2 t in
-      rw two (sym (bigOf-bigAt p (λ i. ltb→lt (getD p i 0) 256 (every-getD-or (λ (x : ℕ). ltb x 256) p i 0 o tt)) 2 (f .at + 2) (omega (arith, inside f c))))
+      rw two (sym (bigOf-bigAt p (octets-lt p o) 2 (f .at + 2) (omega (arith, inside f c))))
 
   -- the octets of a field that has a form and is bare are those of its value
   value-is : T (areOctets p) → (form : Form) (f : Field) → T (coded p f) → T (fits form p f) → T (bare form p f)
@@ -253,20 +240,20 @@ module _ (p : List ℕ) (grant : Bool) where
       fs l c)
 
   -- fields that are those chosen, ID by ID
-  record Bare (rows : List Row) (os : List (Option Field)) (fs : List Field) : Type 0 where
+  record Chosen (rows : List Row) (os : List (Option Field)) (fs : List Field) : Type 0 where
     code : T (every (coded p) fs)
     same : (id : ℕ) → T (uses id rows) → fieldsWith id fs ≡ fieldsWith id (present os)
 
   -- where none is chosen for the first row, they are so for the others
-  bare-none : (r : Row) (rows : List Row) (os : List (Option Field)) (fs : List Field) → Bare (r ∷ rows) (none ∷ os) fs → Bare rows os fs
+  chosen-none : (r : Row) (rows : List Row) (os : List (Option Field)) (fs : List Field) → Chosen (r ∷ rows) (none ∷ os) fs → Chosen rows os fs
   unfolding present
-  bare-none r rows os fs b =
+  chosen-none r rows os fs b =
       record { code = b .code; same = λ id u. b .same id (T-or-right (eqb (r .id) id) (uses id rows) u) }
 
   -- where their first is, the rest are
-  bare-some : (r : Row) (rows : List Row) (f : Field) (os : List (Option Field)) (fs : List Field) → Bare (r ∷ rows) (some f ∷ os) (f ∷ fs) → Bare rows os fs
+  chosen-some : (r : Row) (rows : List Row) (f : Field) (os : List (Option Field)) (fs : List Field) → Chosen (r ∷ rows) (some f ∷ os) (f ∷ fs) → Chosen rows os fs
   unfolding present fieldsWith
-  bare-some r rows f os fs b =
+  chosen-some r rows f os fs b =
       record {
         code = every-rest (coded p) f fs (b .code);
         same = λ id u. behind id (eqb (f .id) id) (b .same id (T-or-right (eqb (r .id) id) (uses id rows) u));
@@ -291,40 +278,27 @@ module _ (p : List ℕ) (grant : Bool) where
   laid-some o r rows f v values fs a c b l =
       rw (a .3, held-something p (r .form) f (a .2), ← value-is p o (r .form) f c (a .2) b, a .1, l)
 
-  -- fields in order that are bare and those chosen are those laid out
-  bare-laid : T (areOctets p) → (rows : List Row) (os : List (Option Field)) (held : List Held) → AllowsAll p grant rows os held
-      → T (orderly rows) → T (gathered rows) → (fs : List Field) → T (inOrder p rows fs) → Bare rows os fs → Laid p rows (map (valueIn p) held) fs
-  bare-laid o =
+  -- fields in order that are those chosen are those laid out
+  in-order-laid : T (areOctets p) → (rows : List Row) (os : List (Option Field)) (held : List Held) → AllowsAll p grant rows os held
+      → T (orderly rows) → T (gathered rows) → (fs : List Field) → T (inOrder p rows fs) → Chosen rows os fs → Laid p rows (map (valueIn p) held) fs
+  in-order-laid o =
       allowed-ind p grant
-      (λ rows os held. T (orderly rows) → T (gathered rows) → (fs : List Field) → T (inOrder p rows fs) → Bare rows os fs → Laid p rows (map (valueIn p) held) fs)
+      (λ rows os held. T (orderly rows) → T (gathered rows) → (fs : List Field) → T (inOrder p rows fs) → Chosen rows os fs → Laid p rows (map (valueIn p) held) fs)
       (λ t g fs i b. unfold contentsFor in rw (in-order-end p fs i))
       (λ r rows c os v held a rest ih t g.
       let values = map (valueIn p) held in
       let behind = ih (orderly-rest r rows t) (T-and-right (ahead (r .id) rows) (gathered rows) g) in
-      let first : (fs : List Field) → Bare (r ∷ rows) (c ∷ os) fs → getElem? (fieldsWith (r .id) fs) 0 ≡ c =
+      let first : (fs : List Field) → Chosen (r ∷ rows) (c ∷ os) fs → getElem? (fieldsWith (r .id) fs) 0 ≡ c =
       λ fs b. rw (b .same (r .id) (T-or-left (eqb (r .id) (r .id)) (uses (r .id) rows) (eqb-refl (r .id)))) (first-allowed p grant r rows c os v held t a rest .0) in
-      in-order-cases p (λ fs. Bare (r ∷ rows) (c ∷ os) fs → Laid p (r ∷ rows) (valueIn p v ∷ values) fs) r rows g
+      in-order-cases p (λ fs. Chosen (r ∷ rows) (c ∷ os) fs → Laid p (r ∷ rows) (valueIn p v ∷ values) fs) r rows g
       (λ f fs own plain i b.
       let is : c ≡ some f = sym (first (f ∷ fs) b) ∙ own-first (r .id) f fs own in
       laid-some o r rows f v values fs (rw is at a) (every-first (coded p) f fs (b .code)) plain
-      (behind fs i (bare-some r rows f os fs (rw is at b))))
+      (behind fs i (chosen-some r rows f os fs (rw is at b))))
       (λ fs e i b.
       let is : c ≡ none = sym (first fs b) ∙ rw e in
       let lacks : Allows p grant r none v = rw is at a in
-      laid-none r rows v values fs (lacks .1) (behind fs i (bare-none r rows os fs (rw is at b)))))
-
--- ---- the kinds
-
--- a kind's rows are in order
-abbrev KindPlain : Kind → Type 0
-KindPlain k = T (orderly (k .rows))
-
--- each kind of the table is so
-kind-plain : (n : Numbers) (kind : ℕ) (k : Kind) → kindWith kind (kinds n) ≡ some k → KindPlain k
-unfolding kinds
-kind-plain n kind k e =
-    kindWith-all kind k KindPlain (kinds n)
-    (tt, (tt, (tt, (tt, (tt, (tt, (tt, tt))))))) e .0
+      laid-none r rows v values fs (lacks .1) (behind fs i (chosen-none r rows os fs (rw is at b)))))
 
 -- ---- packets that read to a meaning
 
@@ -375,12 +349,11 @@ module _ (s : Sheet) (p : List ℕ) (m : Meaning) (r : Says s p m) where
   laid-canonical : AsLaid → T (canonicalIn rows p)
   unfolding canonicalIn contentsOf
   laid-canonical l =
-      let right = kind-plain (numbersOf s) (r .kind .kind) (r .kind) (kind-with (numbersOf s) p (r .kind) (r .is) .0) in
       let fs = fieldsOf p in
       let pads : Field → Bool = λ f. zeros (padding p (f .at)) in
       T-and (whole p) (inOrder p rows fs && every pads fs) (r .walked)
       (T-and (inOrder p rows fs) (every pads fs)
-      (laid-in-order p grant rows (r .chosen) (r .held) (r .allows) right fs (every-coded p) l)
+      (laid-in-order p grant rows (r .chosen) (r .held) (r .allows) (kind-orderly (numbersOf s) p (r .kind) (r .is)) fs (every-coded p) l)
       (every-field p pads (λ at h t. unfold fieldAt in right-padding p at t)))
 
   -- and a canonical one is so laid out
@@ -391,7 +364,7 @@ module _ (s : Sheet) (p : List ℕ) (m : Meaning) (r : Says s p m) where
       let fs = fieldsOf p in
       let pads : Field → Bool = λ f. zeros (padding p (f .at)) in
       let u = T-and-right (whole p) (inOrder p rows fs && every pads fs) t in
-      bare-laid p grant o rows (r .chosen) (r .held) (r .allows) (kind-plain (numbersOf s) (r .kind .kind) (r .kind) (has .0))
+      in-order-laid p grant o rows (r .chosen) (r .held) (r .allows) (kind-orderly (numbersOf s) p (r .kind) (r .is))
       (kind-right s (r .valid) (r .kind .kind) (r .kind) (has .0) .together)
       fs (T-and-left (inOrder p rows fs) (every pads fs) u)
       (record {

@@ -7,7 +7,7 @@ use Prim.Native.Nat.{ℕ, _+_, _^_}
 use lib.ListN.{length, getD, take, drop}
 use lib.Dec.{T, leb, eqb, lt→ltb}
 use Rattle.octets.specs.Choice.{every}
-use Rattle.octets.proofs.Choice.{T-true, T-and, T-and-left, T-and-right, pick-true}
+use Rattle.octets.proofs.Choice.{T-true, T-and, T-and-left, T-and-right, pick-true, pick-cases}
 use Rattle.octets.proofs.Big.{bigAt-lt}
 use Rattle.sheet.specs.declared.Sheet.{Sheet}
 use Rattle.sheet.specs.Judge.{userId}
@@ -118,24 +118,33 @@ reads-says s p m r =
 
 -- ---- its meaning is writable
 
+-- the value of a field that has a form is not nothing
+pub held-something : (p : List ℕ) (form : Form) (f : Field) → T (fits form p f) → isNothing (valueIn p (heldIn form p f)) ≡ false
+unfolding fits heldIn valueIn isNothing
+held-something p UserId f t = pick-cases (λ v. isNothing v ≡ false) (leb (f .at + 2 + f .len) (length p)) _ _ (λ u. refl) (λ e. refl)
+held-something p Number f t = refl
+held-something p Cause f t = refl
+held-something p Result f t = refl
+held-something p MessageType f t = refl
+held-something p Barred f t = absurd t
+
 module _ (p : List ℕ) (o : T (areOctets p)) where
   -- a 16-bit number goes into two octets
   number-narrow : (f : Field) → T (within 2 (numberAt p f))
   unfolding numberAt
   number-narrow f = lt→ltb (numberAt p f) (256 ^ 2) (bigAt-lt 2 p (f .at + 2) (octets-lt p o))
 
-  -- the value of a field that has its form is there and has it
-  held-holds : (form : Form) (f : Field) → T (fits form p f) → T (nameRight p (heldIn form p f))
-      → (isNothing (valueIn p (heldIn form p f)) ≡ false) × T (holds form (valueIn p (heldIn form p f)))
-  unfolding fits heldIn nameRight valueIn isNothing holds
+  -- the value of a field that has its form has it
+  held-holds : (form : Form) (f : Field) → T (fits form p f) → T (nameRight p (heldIn form p f)) → T (holds form (valueIn p (heldIn form p f)))
+  unfolding fits heldIn nameRight valueIn holds
   held-holds UserId f t i =
       let name = userId (take (f .len) (drop (f .at + 2) p)) in
       let inside = leb (f .at + 2 + f .len) (length p) in
-      rw (T-true inside (T-and-left inside name i)) (refl, T-and-right inside name i)
-  held-holds Number f t i = (refl, number-narrow f)
-  held-holds Cause f t i = (refl, number-narrow f)
-  held-holds Result f t i = (refl, T-and-right (eqb (f .len) 2) (leb (numberAt p f) 1) t)
-  held-holds MessageType f t i = (refl, lt→ltb (getD p (f .at + 2) 0) (256 ^ 1) (octets-lt p o (f .at + 2)))
+      rw (T-true inside (T-and-left inside name i)) (T-and-right inside name i)
+  held-holds Number f t i = number-narrow f
+  held-holds Cause f t i = number-narrow f
+  held-holds Result f t i = T-and-right (eqb (f .len) 2) (leb (numberAt p f) 1) t
+  held-holds MessageType f t i = lt→ltb (getD p (f .at + 2) 0) (256 ^ 1) (octets-lt p o (f .at + 2))
   held-holds Barred f t i = absurd t
 
   -- a row takes what the value that it allows means
@@ -143,8 +152,8 @@ module _ (p : List ℕ) (o : T (areOctets p)) where
   unfolding takes
   row-takes grant r none v i a = rw (a .1) (unfold valueIn isNothing in a .0)
   row-takes grant r (some f) v i a =
-      let there = held-holds (r .form) f (a .2) (rw (a .3) at i) in
-      rw (a .3, there .0) (T-and (mayHave grant (r .need)) (holds (r .form) (valueIn p (heldIn (r .form) p f))) (a .0) (there .1))
+      rw (a .3, held-something p (r .form) f (a .2))
+      (T-and (mayHave grant (r .need)) (holds (r .form) (valueIn p (heldIn (r .form) p f))) (a .0) (held-holds (r .form) f (a .2) (rw (a .3) at i)))
 
   -- and all rows take theirs
   rows-take : (grant : Bool) (rows : List Row) (chosen : List (Option Field)) (held : List Held) → T (every (nameRight p) held)

@@ -112,9 +112,9 @@ module _ (ack : Bool) (number ssrc : ℕ) (letters rest : List ℕ) (small : num
   }
 
   -- and is made of octets
-  pub header-octets : firstField + length rest ≤ 256 → T (areOctets letters) → T (areOctets rest) → T (areOctets packet)
+  pub header-octets : T (areOctets letters) → T (areOctets rest) → T (areOctets packet)
   unfolding areOctets header
-  header-octets most l r =
+  header-octets l r =
       let octet : ℕ → Bool = λ x. ltb x 256 in
       let one : firstOctet ack number < 256 = omega (arith, first) in
       let behind = bigOf 2 minus-one ++ (bigOf 4 ssrc ++ letters) in

@@ -21,6 +21,7 @@ use Rattle.packet.specs.Header.{lettersIn, numberIn}
 use Rattle.packet.specs.Kind.{Row, Kind, kinds, hasKind, kindOf, numbersOf}
 use Rattle.packet.proofs.Laws.Allowed.{uses}
 use Rattle.writing.specs.Packet.{kindWith}
+use Rattle.writing.specs.Claims.{areOctets}
 
 -- ---- the kind with a number
 
@@ -29,6 +30,27 @@ pub kindWith-all : (kind : ℕ) (k : Kind) (P : Kind → Type 0) (ks : List Kind
 unfolding kindWith
 kindWith-all kind k P ks h e = first-all (λ (c : Kind). eqb (c .kind) kind) k P ks h e
 
+-- ---- a sheet's numbers
+
+-- those of the messages go into four bits, and the Result's ID is apart from the IDs of document 01 and below 192
+pub record Small (s : Sheet) : Type 0 where
+  pub request : s .request < 16
+  pub response : s .response < 16
+  pub endrequest : s .endrequest < 16
+  pub endresponse : s .endresponse < 16
+  pub txend : s .txend < 16
+  pub txendresponse : s .txendresponse < 16
+  pub ack : s .ack < 16
+  pub above : 15 ≤ s .resultid
+  pub resultid : s .resultid < 192
+
+-- a valid one's are so: each is within its line's bounds
+pub small : (s : Sheet) → T (validAlone s) → Small s
+unfolding table numberLines rowAt value.numbersOf
+small s v =
+    let at = valid-within s v in
+    omega (arith, at 2 (lit< tt), at 3 (lit< tt), at 4 (lit< tt), at 5 (lit< tt), at 6 (lit< tt), at 7 (lit< tt), at 8 (lit< tt), at 9 (lit< tt))
+
 -- ---- what each is like
 
 -- the first row has the ID
@@ -36,38 +58,41 @@ abbrev pub leads : ℕ → List Row → Bool
 leads id [] = false
 leads id (r ∷ rows) = eqb (r .id) id
 
+-- rows with the ID come first or not at all
+abbrev pub ahead : ℕ → List Row → Bool
+ahead id rows = leads id rows || not (uses id rows)
+
 -- rows with one ID stand together
 abbrev pub gathered : List Row → Bool
 gathered [] = true
-gathered (r ∷ rows) = (leads (r .id) rows || not (uses (r .id) rows)) && gathered rows
+gathered (r ∷ rows) = ahead (r .id) rows && gathered rows
 
 -- what a kind is like
 pub record KindRight (k : Kind) : Type 0 where
   pub number : k .number < 16
   pub letters : length (k .letters) ≡ 4
-  pub octets : T (every (λ (x : ℕ). ltb x 256) (k .letters))
+  pub octets : T (areOctets (k .letters))
   pub few : length (k .rows) ≤ 3
   pub ids : T (every (λ (r : Row). ltb (r .id) 192) (k .rows))
   pub together : T (gathered (k .rows))
 
 -- each of a valid sheet's kinds is; only the second's rows depend on the sheet
 kinds-right : (s : Sheet) → T (validAlone s) → All KindRight (kinds (numbersOf s))
-unfolding kinds numbersOf value.numbersOf numberLines rowAt table
+unfolding kinds numbersOf areOctets
 kinds-right s v =
-    let at = valid-within s v in
-    let id = s .resultid in
-    let bounds = at 9 (lit< tt) in (
-      omega (arith, at 2 (lit< tt)),
+    let n = small s v in
+    let id = s .resultid in (
+      omega arith,
       (
         record {
-          number = omega (arith, at 3 (lit< tt));
+          number = n .response;
           letters = refl;
           octets = tt;
           few = omega arith;
-          ids = rw (lt-ltb id 192 (omega arith)) tt;
+          ids = rw (lt-ltb id 192 (n .resultid)) tt;
           together = rw (ne-eqb 2 id (λ q. omega arith), ne-eqb 13 id (λ q. omega arith)) tt;
         },
-        omega (arith, at 4 (lit< tt), at 5 (lit< tt), at 6 (lit< tt), at 7 (lit< tt), at 8 (lit< tt)),
+        omega arith,
       ),
     )
 

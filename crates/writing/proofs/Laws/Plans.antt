@@ -14,10 +14,7 @@ use Rattle.octets.specs.Big.{bigOf}
 use Rattle.octets.proofs.Big.{bigOf-two}
 use Rattle.octets.proofs.Choice.{T-true, decide, T-and-left, T-and-right}
 use Rattle.sheet.specs.declared.Sheet.{Sheet}
-use Rattle.sheet.specs.Table.{table, numberLines, rowAt}
-use Rattle.sheet.specs.Value as value
 use Rattle.sheet.specs.Value.{validAlone}
-use Rattle.sheet.proofs.Laws.Bounds.{valid-within}
 use Rattle.packet.specs.declared.Head.{Head}
 use Rattle.packet.specs.declared.Name.{Name}
 use Rattle.packet.specs.declared.Indicator.{Indicator}
@@ -36,6 +33,7 @@ use Rattle.writing.specs.Meaning.{Value, nothing, numeral, valueIn, mean
 use Rattle.writing.specs.Packet.{within, holds, isNothing, takes, takesAll, isOne, writable, octetsFor, contentsFor, packetAs, kindWith, packetOf}
 use Rattle.writing.specs.Writing.{packetFor}
 use Rattle.writing.specs.Inner.{numberPart, indicatorPart, planWith, planFor, indicatorWithin, inWidth, partOctets, partRight, planned}
+use Rattle.writing.proofs.Laws.Kinds.{small}
 use Rattle.writing.proofs.Laws.Parts.{laid-number}
 
 -- ---- tests, and choice by a test
@@ -60,36 +58,6 @@ octet-first n h =
     let first : n * 256 / 256 % 256 ≡ n = omega arith in
     let second : n * 256 % 256 ≡ 0 = omega arith in
     rw (bigOf-two, first, second)
-
--- ---- a sheet's numbers
-
--- the numbers that a plan takes from a sheet
-pub record Small (s : Sheet) : Type 0 where
-  pub request : s .request < 16
-  pub response : s .response < 16
-  pub endrequest : s .endrequest < 16
-  pub endresponse : s .endresponse < 16
-  pub txend : s .txend < 16
-  pub txendresponse : s .txendresponse < 16
-  pub ack : s .ack < 16
-  pub resultid : s .resultid < 256
-
--- of a valid one they are in their lines' bounds
--- each is within its line's bounds
-pub small : (s : Sheet) → T (validAlone s) → Small s
-unfolding table numberLines rowAt value.numbersOf
-small s v =
-    let most : (k : ℕ) → k < numberLines → getD (value.numbersOf s) k 0 ≤ rowAt k .greatest = λ k l. valid-within s v k l .1 in
-    record {
-      request = omega (arith, most 2 (lit< tt));
-      response = omega (arith, most 3 (lit< tt));
-      endrequest = omega (arith, most 4 (lit< tt));
-      endresponse = omega (arith, most 5 (lit< tt));
-      txend = omega (arith, most 6 (lit< tt));
-      txendresponse = omega (arith, most 7 (lit< tt));
-      ack = omega (arith, most 8 (lit< tt));
-      resultid = omega (arith, most 9 (lit< tt));
-    }
 
 -- ---- a row, its value and a part
 
@@ -180,6 +148,10 @@ planned-as s kind letters h {names} {k} {values} {first} {second} {third} e l w 
     (pick-under (partRight names first && (partRight names second && partRight names third)) none
     (λ t. rw (m .fields (rw right t), append-nil, append-assoc)))
 
+-- the Result's ID goes into an octet
+narrow-id : (s : Sheet) → T (validAlone s) → s .resultid < 256
+narrow-id s v = let n = small s v in omega arith
+
 -- the plan of a message whose numbers are no wider than their types
 pub planned-is : (s : Sheet) → T (validAlone s) → (m : Message) (names : List ℕ) → T (inWidth m) → planned names (planFor s m) ≡ packetFor s (meaning names (messageSaid m))
 unfolding inWidth kindWith kinds numbersOf bigOf meaning valueIn grants isResult isOne mayLack mayHave holds octetsFor
@@ -190,12 +162,12 @@ planned-is s v (ReceiveRequest h user source i) names w =
 planned-is s v (ReceiveResponse h Granted i) names w =
     let t = halves (within 4 (h .ssrc)) (indicatorWithin i) w in
     planned-as s 2 0x4D435631 h refl refl (t .0)
-    (next-row (number-makes tt refl (small s v .resultid) (lit< tt)) (next-row (absent-makes tt) (next-row (indicator-makes i (t .1)) no-rows)))
+    (next-row (number-makes tt refl (narrow-id s v) (lit< tt)) (next-row (absent-makes tt) (next-row (indicator-makes i (t .1)) no-rows)))
 planned-is s v (ReceiveResponse h (Rejected cause) i) names w =
     let t = halves (within 4 (h .ssrc)) (within 2 cause && indicatorWithin i) w in
     let u = halves (within 2 cause) (indicatorWithin i) (t .1) in
     planned-as s 2 0x4D435631 h refl refl (t .0)
-    (next-row (number-makes tt refl (small s v .resultid) (lit< tt)) (next-row (number-makes (u .0) refl (lit< tt) (ltb→lt cause 65536 (u .0))) (next-row (indicator-makes i (u .1)) no-rows)))
+    (next-row (number-makes tt refl (narrow-id s v) (lit< tt)) (next-row (number-makes (u .0) refl (lit< tt) (ltb→lt cause 65536 (u .0))) (next-row (indicator-makes i (u .1)) no-rows)))
 planned-is s v (EndRequest h n i) names w =
     let t = halves (within 4 (h .ssrc)) (indicatorWithin i) w in
     planned-as s 3 0x4D435632 h refl refl (t .0)

@@ -8,7 +8,7 @@ use Rattle.octets.proofs.Choice.{T-and}
 use Rattle.sheet.specs.Value.{sheetBy, sheetFrom}
 use Rattle.writing.specs.Packet.{within}
 use Rattle.writing.specs.Inner.{indicatorWithin, verdictWithin, inWidth}
-use Rattle.writing.proofs.Laws.Plans.{small}
+use Rattle.writing.proofs.Laws.Kinds.{small}
 use Rattle.writing.proofs.messages.plan_of.Statement.{statement}
 use Rattle.writing.proofs.messages.plan_of.Tie as tie
 
@@ -44,7 +44,8 @@ result-part-requires : tie.Need-result-part-requires
 unfolding sheetFrom sheetBy
 result-part-requires c κs =
     let start = c .before .before .before .before .before in
-    small (sheetFrom (start .args .numbers .now)) (start .pre) .resultid
+    let n = small (sheetFrom (start .args .numbers .now)) (start .pre) in
+    omega arith
 
 cause-part-requires : tie.Need-cause-part-requires
 cause-part-requires c κs = search needs
