@@ -3,13 +3,12 @@
 use mathlib.Core.Path.{_≡_}
 use Prim.Native.Nat.{ℕ, _+_, _-_, _≤_, _<_, min}
 use mathlib.Core.Bool.{Bool, true, false, _&&_}
-use mathlib.Core.List.{List, [], _++_}
+use mathlib.Core.List.{List, []}
 use mathlib.Core.Option.{Option, none, some}
 use lib.ListN.{length, getD, take, drop}
 use lib.Dec.{T, leb, eqb}
 use Rattle.octets.specs.Choice.{pick, same, begins, front}
 use Rattle.octets.specs.Text.{ascii}
-use Rattle.sheet.specs.declared.Sheet.{Sheet}
 use Rattle.sheet.specs.declared.table.Rule.{Rule}
 use Rattle.sheet.specs.declared.line.Line.{Line}
 use Rattle.sheet.specs.declared.line.Line.the-variants.{Good, Bad}
@@ -18,7 +17,7 @@ use Rattle.sheet.specs.declared.line.Rest.the-variants.{Good as GoodTail
 use Rattle.sheet.specs.Table.{Row, rowAt, numberLines}
 use Rattle.sheet.specs.Line.{visible, tailOf, lineOf, entryIn}
 use Rattle.sheet.specs.Judge.{goodNumber, userId}
-use Rattle.sheet.specs.Value.{rowOf, nameOf, numbersOf, validAlone}
+use Rattle.sheet.specs.Value.{rowOf, nameOf}
 use Rattle.sheet.specs.Find.{seatOfUser}
 
 -- the keys as the code holds them, one behind the other

@@ -3,13 +3,13 @@
 use mathlib.Core.Path.{_≡_, refl, sym, ap, _∙_, subst}
 use mathlib.Core.Bool.{Bool, false, not, or-false}
 use mathlib.Core.List.{List, [], _∷_, map}
-use mathlib.Core.Option.{Option, none, some, Option·none-ne-some, Option·some-injective}
+use mathlib.Core.Option.{Option, none, some}
 use Prim.Native.Nat.{ℕ}
 use lib.Dec.{T, leb, eqb, eqb-refl}
 use borrow.Author.Tests.{not-true}
 use Rattle.octets.specs.Choice.{every}
 use Rattle.octets.proofs.First.{All, first-all}
-use Rattle.octets.proofs.Choice.{T-true, T-and-left, T-and-right, T-or-left, pick-cases}
+use Rattle.octets.proofs.Choice.{T-true, T-and-left, T-and-right, T-or-left}
 use Rattle.packet.specs.declared.field.Field.{Field}
 use Rattle.packet.specs.declared.kind.Form.the-variants.{Cause, Result}
 use Rattle.packet.specs.declared.kind.Slot.{Slot}

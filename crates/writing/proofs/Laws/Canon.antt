@@ -3,18 +3,18 @@
 -- meaning, row by row. Assumes nothing.
 use mathlib.Core.Path.{_≡_, refl, sym, ap, _∙_}
 use mathlib.Core.Logic.{⊎-elim}
-use mathlib.Core.Bool.{Bool, true, false, not, _&&_, _||_}
+use mathlib.Core.Bool.{Bool, true, false, not, _&&_}
 use mathlib.Core.List.{List, [], _∷_, map, cons-ne-nil}
 use mathlib.Core.Option.{Option, none, some, Option·none-ne-some, Option·some-injective}
 use Prim.Native.Nat.{ℕ, suc, _+_, _≤_}
 use native.Mathlib.Omega.{arith}
 use lib.ListN.{length, getD, getElem?, drop, length-drop}
 use lib.Seq.{length-take-le, drop-at, getD-take, getD-drop}
-use lib.Dec.{T, leb, ltb, eqb, leb→le, ltb→lt, eqb→eq, eqb-refl, T-not}
+use lib.Dec.{T, leb, eqb, leb→le, eqb→eq, eqb-refl}
 use borrow.Author.Tests.{eq-eqb, not-true}
 use Rattle.octets.specs.Choice.{pick, every}
 use Rattle.octets.specs.Big.{bigOf}
-use Rattle.octets.proofs.Choice.{T-true, true-T, false-T, decide, T-and, T-and-left, T-and-right, T-or-left, T-or-right, T-or-cases, or-false-both, pick-cases, every-getD-or, every-weaker}
+use Rattle.octets.proofs.Choice.{T-true, true-T, false-T, decide, T-and, T-and-left, T-and-right, T-or-left, T-or-right, T-or-cases, or-false-both, pick-cases}
 use Rattle.octets.proofs.Lists.{listed-take}
 use Rattle.octets.proofs.Big.{length-bigOf, bigOf-bigAt}
 use Rattle.sheet.specs.declared.Sheet.{Sheet}
@@ -22,11 +22,10 @@ use Rattle.sheet.specs.Value.{validAlone}
 use Rattle.packet.specs.declared.field.Field.{Field}
 use Rattle.packet.specs.declared.kind.Form.{Form}
 use Rattle.packet.specs.declared.kind.Form.the-variants.{UserId, Number, Cause, Result, MessageType, Barred}
-use Rattle.packet.specs.declared.kind.Numbers.{Numbers}
 use Rattle.packet.specs.Header.{firstField}
 use Rattle.packet.specs.Walk.{zeros, padding, valueOf, fieldAt, fieldsOf, whole}
 use Rattle.packet.specs.Layout.{Content, laidAll, contentOf, contentsOf}
-use Rattle.packet.specs.Kind.{Row, Kind, kinds, kindOf, numbersOf, mayLack, grants}
+use Rattle.packet.specs.Kind.{Row, numbersOf, mayLack, grants}
 use Rattle.packet.specs.Judge.{Held, absent, numberAt, fits, heldIn, fieldsWith}
 use Rattle.packet.specs.Claims.{present, Allows, AllowsAll, isOne}
 use Rattle.packet.proofs.Laws.Walk.{right-padding, every-field}
@@ -34,7 +33,7 @@ use Rattle.packet.proofs.Laws.Fields.{coded, coded-says, every-coded}
 use Rattle.packet.proofs.Laws.Layouts.{laid-once, walk-meets}
 use Rattle.packet.proofs.Laws.Allowed.{uses, orderly, orderly-rest, arranged-used, allowed-ind, orderly-lack, first-allowed}
 use Rattle.writing.specs.Meaning.{Value, valueIn, Meaning}
-use Rattle.writing.specs.Packet.{numberHeld, isNothing, octetsFor, contentsFor, header, withHeader, kindWith, packetOf, packetAs}
+use Rattle.writing.specs.Packet.{numberHeld, isNothing, octetsFor, contentsFor, header, withHeader, packetOf, packetAs}
 use Rattle.writing.specs.Canonical.{inOrder, bare, canonicalIn, canonical}
 use Rattle.writing.specs.Claims.{areOctets, ReadsTo}
 use Rattle.packet.proofs.Laws.Accepts.{kind-orderly}

@@ -17,7 +17,7 @@ use Rattle.writing.specs.Meaning.{Meaning, meaning}
 use Rattle.writing.specs.Packet.{packetAs, packetOf}
 use Rattle.writing.specs.Writing.{Made, made, refused, roomFor, packetFor, writeOf}
 use Rattle.writing.specs.Canonical.{canonical}
-use Rattle.writing.specs.Claims.{ReadsTo, ReadsBack, WritableExactly, FiveExactly, Again, WrittenAgain, CanonicalOnce, Twice}
+use Rattle.writing.specs.Claims.{ReadsTo, ReadsBack, WritableExactly, FiveExactly, WrittenAgain, CanonicalOnce, Twice}
 use Rattle.writing.proofs.Laws.Back.{packet-reads}
 use Rattle.writing.proofs.Laws.Forth.{reads-says, reads-writable}
 use Rattle.writing.proofs.Laws.Canon.{written-canonical, canonical-is}

@@ -1,12 +1,12 @@
 -- Laws of a plan's fields: the octets of each, part by part, how many they take, and how they are put. Assumes nothing.
 use mathlib.Core.Path.{_≡_, refl, _∙_}
 use mathlib.Core.Bool.{_&&_}
-use mathlib.Core.List.{List, [], _∷_, _++_, append-nil, append-assoc}
+use mathlib.Core.List.{List, _∷_, _++_, append-nil}
 use Prim.Native.Nat.{ℕ, zero, suc, _+_, _-_, _*_, _/_, _%_, _≤_, _<_}
 use native.Mathlib.Nat.{sub-zero}
 use native.Mathlib.Omega.{arith}
-use lib.ListN.{length, getD, set, take, drop, replicate, length-append, length-drop, take-append-drop}
-use lib.Seq.{take-suc, length-take-le}
+use lib.ListN.{length, set, drop, replicate, length-append, length-drop}
+use lib.Seq.{length-take-le}
 use lib.Dec.{T, leb, leb→le}
 use Rattle.octets.specs.Big.{bigOf}
 use Rattle.octets.specs.Buffer.{padded, putAt}

@@ -1,17 +1,15 @@
 -- `writing::write_plan` meets its contract: a plan that is right has a packet as long as its size says, which goes into the buffer as its
 -- header and then, into the part behind it, its fields. Assumes nothing.
 use mathlib.Core.Path.{_≡_, refl, sym, _∙_}
-use mathlib.Core.List.{List, _++_, append-nil}
+use mathlib.Core.List.{List, _++_}
 use Prim.Native.Nat.{ℕ, _+_, _-_, _≤_, _<_}
 use native.Mathlib.Omega.{arith}
-use lib.ListN.{length, take, drop, length-append, length-take, length-drop, drop-of-length-le}
-use lib.Seq.{take-all}
+use lib.ListN.{length, length-append, length-take, length-drop}
 use lib.Dec.{T}
 use denote.Ref.{now}
 use borrow.Author.Needs.{needs}
 use borrow.Author.Tests.{not-true, not-false, le-leb, lt-leb}
 use Rattle.octets.specs.Big.{bigOf}
-use Rattle.octets.specs.Buffer.{over}
 use Rattle.octets.proofs.Choice.{T-true, true-T}
 use Rattle.octets.proofs.Big.{length-bigOf}
 use Rattle.octets.proofs.Buffer.{part-over}
