@@ -4,13 +4,8 @@ use mathlib.Core.Bool.{Bool}
 use mathlib.Core.List.{List, [], _∷_}
 use mathlib.Core.Option.{some, Option·none-ne-some, Option·some-injective}
 use lib.Dec.{T}
-use Rattle.octets.specs.Choice.{first-by}
+use Rattle.octets.specs.Choice.{All, first-by}
 use Rattle.octets.proofs.Choice.{false-T, pick-cases}
-
--- what holds of each element
-abbrev pub All {ℓ} : {A : Type 0} → (A → Type ℓ) → List A → Type ℓ
-All P [] = Unit {ℓ}
-All P (x ∷ xs) = P x × All P xs
 
 module _ {A : Type 0} (t : A → Bool) (x : A) where
   -- it passes the test, and what holds of each holds of it

@@ -53,3 +53,8 @@ first-place p (x ∷ xs) = pick (p x) (some zero) (Option·map suc (first-place 
 abbrev pub first-by {ℓ} : {A : Type ℓ} → (A → Bool) → List A → Option A
 first-by p [] = none
 first-by p (x ∷ xs) = pick (p x) (some x) (first-by p xs)
+
+-- what holds of each element
+abbrev pub All {ℓ} : {A : Type 0} → (A → Type ℓ) → List A → Type ℓ
+All P [] = Unit {ℓ}
+All P (x ∷ xs) = P x × All P xs

@@ -7,8 +7,8 @@ use mathlib.Core.Option.{Option, none, some}
 use Prim.Native.Nat.{ℕ}
 use lib.Dec.{T, leb, eqb, eqb-refl}
 use borrow.Author.Tests.{not-true}
-use Rattle.octets.specs.Choice.{every}
-use Rattle.octets.proofs.First.{All, first-all}
+use Rattle.octets.specs.Choice.{All, every}
+use Rattle.octets.proofs.First.{first-all}
 use Rattle.octets.proofs.Choice.{T-true, T-and-left, T-and-right, T-or-left}
 use Rattle.packet.specs.declared.field.Field.{Field}
 use Rattle.packet.specs.declared.kind.Form.the-variants.{Cause, Result}

@@ -81,7 +81,7 @@ restGood-all s eight h =
     rw (T-true (whole (numbersOf s ++ xs)) w, z, e, take-append-add (numbersOf s) (s .ssrcs) (s .seats), drop-append-add (numbersOf s) (s .ssrcs) (s .seats))
 
 -- "seats (1 to 8)"
-few-seats : (s : Sheet) → T (validAlone s) → s .seats ≤ mostSeats
+pub few-seats : (s : Sheet) → T (validAlone s) → s .seats ≤ mostSeats
 unfolding validAlone numbersOf seatsLine numberLines table
 few-seats s t =
     let ns = numbersOf s ++ take (s .seats) (s .ssrcs) in

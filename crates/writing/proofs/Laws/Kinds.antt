@@ -8,9 +8,9 @@ use native.Mathlib.Omega.{arith}
 use lib.ListN.{length, getD}
 use lib.Dec.{T, ltb, eqb, eqb→eq, eqb-refl, lit<}
 use borrow.Author.Tests.{lt-ltb, ne-eqb}
-use Rattle.octets.specs.Choice.{same, every}
+use Rattle.octets.specs.Choice.{All, same, every}
 use Rattle.octets.proofs.Choice.{T-and, T-and-left, T-and-right, same-refl, same-eq}
-use Rattle.octets.proofs.First.{All, first-all, first-other}
+use Rattle.octets.proofs.First.{first-all, first-other}
 use Rattle.sheet.specs.declared.Sheet.{Sheet}
 use Rattle.sheet.specs.Table.{table, numberLines, rowAt}
 use Rattle.sheet.specs.Value as value

@@ -1,0 +1,63 @@
+-- Laws of records: two are the same exactly if they are equal; what a legal one has. Assumes nothing.
+use mathlib.Core.Path.{_≡_, refl, sym, ap, ap₂, _∙_}
+use mathlib.Core.Bool.{false}
+use Prim.Native.Nat.{ℕ, _^_, _<_}
+use native.Mathlib.Omega.{arith}
+use lib.Pow.{pow-pos}
+use lib.Dec.{T, ltb→lt, eqb, eqb→eq, eqb-refl}
+use Rattle.octets.specs.Choice.{pick}
+use Rattle.octets.proofs.Choice.{T-false, T-and, T-and-left, T-and-right}
+use Rattle.reception.specs.declared.Phase.{Phase}
+use Rattle.reception.specs.declared.Phase.the-variants.{Free, Idle, Watched, Ending}
+use Rattle.reception.specs.declared.Record.{Record}
+use Rattle.reception.specs.declared.stream.Rules.{Rules}
+use Rattle.reception.specs.Record.{phaseNumber, is, sameRecord, goodReceivers, legalIn, legal}
+
+-- the phase of a number
+abbrev phaseBack : ℕ → Phase
+phaseBack n = pick (eqb n 0) Free (pick (eqb n 1) Idle (pick (eqb n 2) Watched Ending))
+
+-- a phase is got back from its number
+phase-back : (p : Phase) → phaseBack (phaseNumber p) ≡ p
+phase-back Free = refl
+phase-back Idle = refl
+phase-back Watched = refl
+phase-back Ending = refl
+
+-- phases of one number are equal
+phase-equal : (p q : Phase) → phaseNumber p ≡ phaseNumber q → p ≡ q
+phase-equal p q e = sym (phase-back p) ∙ ap phaseBack e ∙ phase-back q
+
+-- records that are the same are equal
+pub same-equal : (x y : Record) → T (sameRecord x y) → x ≡ y
+unfolding sameRecord
+same-equal x y t =
+    ap₂ (λ (p : Phase) (b : ℕ). record { phase = p; receivers = b })
+    (phase-equal (x .phase) (y .phase) (eqb→eq _ _ (T-and-left (is (y .phase) x) _ t)))
+    (eqb→eq _ _ (T-and-right (is (y .phase) x) (eqb (x .receivers) (y .receivers)) t))
+
+-- equal records are the same
+pub equal-same : (x y : Record) → x ≡ y → T (sameRecord x y)
+unfolding sameRecord
+equal-same x y e = rw e (T-and (is (y .phase) y) _ (eqb-refl (phaseNumber (y .phase))) (eqb-refl (y .receivers)))
+
+-- other records are not
+pub other-same : (x y : Record) → (x ≡ y → ⊥) → sameRecord x y ≡ false
+other-same x y n = T-false (sameRecord x y) (λ t. n (same-equal x y t))
+
+-- a byte 0 is below every power of two
+none-below : (n b : ℕ) → T (eqb b 0) → b < 2 ^ n
+none-below n b t = omega (arith, eqb→eq b 0 t, pow-pos n)
+
+-- what is legal in a phase has no bit of a seat not on the sheet
+legal-in-below : (p : Phase) (q : Rules) (s : ℕ) (x : Record) → T (legalIn p q s x) → x .receivers < 2 ^ q .seats
+unfolding legalIn goodReceivers
+legal-in-below Free q s x t = none-below (q .seats) (x .receivers) t
+legal-in-below Idle q s x t = none-below (q .seats) (x .receivers) t
+legal-in-below Watched q s x t = ltb→lt (x .receivers) (2 ^ q .seats) (search (T-and-left, T-and-right))
+legal-in-below Ending q s x t = none-below (q .seats) (x .receivers) t
+
+-- a legal record has no bit of a seat not on the sheet, whatever its phase
+pub legal-below : (q : Rules) (s : ℕ) (x : Record) → T (legal q s x) → x .receivers < 2 ^ q .seats
+unfolding legal
+legal-below q s x t = legal-in-below (x .phase) q s x t

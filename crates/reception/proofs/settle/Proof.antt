@@ -1,0 +1,116 @@
+-- `reception::settle` meets its contract: its tests are those of the definition, in their order, and what it leaves is the records with
+-- the one wanted set, or as they were. Assumes nothing.
+use mathlib.Core.Path.{_≡_, sym, _∙_}
+use mathlib.Core.Bool.{true}
+use borrow.Author.Needs.{needs}
+use borrow.Author.Tests.{not-true, not-false}
+use Rattle.reception.specs.Record.{legal}
+use Rattle.reception.specs.Steps.{stored}
+use Rattle.reception.specs.Inner.{settled, settledOf}
+use Rattle.reception.proofs.settle.Statement.{statement}
+use Rattle.reception.proofs.settle.Tie as tie
+
+is-legal-requires : tie.Need-is-legal-requires
+is-legal-requires c κs = search needs
+
+refusal-requires : tie.Need-refusal-requires
+refusal-requires c κs = search needs
+
+unchanged-requires : tie.Need-unchanged-requires
+unchanged-requires c κs = search needs
+
+returns : tie.Need-returns
+unfolding settledOf settled stored
+returns c =
+    let test = c .before .before in
+    let r = c .before .refusal .ensures in
+    c .unchanged .ensures ∙ rw (r .0, r .1, sym (test .before .is-legal .ensures) ∙ not-true _ (test .if1 .taken))
+
+-- past the first test the record seen is legal
+seen-legal : (c : tie.Else1)
+    → let a = c .before .before .before .before .args in
+    legal (a .rules) (a .attempt .stream) (a .attempt .seen) ≡ true
+seen-legal c = sym (c .before .is-legal .ensures) ∙ not-false _ (c .if1 .left)
+
+is-legal-requires-2 : tie.Need-is-legal-requires-2
+is-legal-requires-2 c κs = search needs
+
+refusal-requires-2 : tie.Need-refusal-requires-2
+refusal-requires-2 c κs = search needs
+
+unchanged-requires-2 : tie.Need-unchanged-requires-2
+unchanged-requires-2 c κs = search needs
+
+returns-2 : tie.Need-returns-2
+unfolding settledOf settled stored
+returns-2 c =
+    let test = c .before .before in
+    let r = c .before .refusal2 .ensures in
+    c .unchanged2 .ensures
+    ∙ rw (r .0, r .1, seen-legal (test .before .before), sym (test .before .is-legal2 .ensures) ∙ not-true _ (test .if2 .taken))
+
+-- past the second so is the one wanted
+wanted-legal : (c : tie.Else2)
+    → let a = c .before .before .before .before .before .before .args in
+    legal (a .rules) (a .attempt .stream) (a .attempt .wanted) ≡ true
+wanted-legal c = sym (c .before .is-legal2 .ensures) ∙ not-false _ (c .if2 .left)
+
+is-same-requires : tie.Need-is-same-requires
+is-same-requires c κs = search needs
+
+refusal-requires-3 : tie.Need-refusal-requires-3
+refusal-requires-3 c κs = search needs
+
+unchanged-requires-3 : tie.Need-unchanged-requires-3
+unchanged-requires-3 c κs = search needs
+
+returns-3 : tie.Need-returns-3
+unfolding settledOf settled stored
+returns-3 c =
+    let test = c .before .before in
+    let r = c .before .refusal3 .ensures in
+    let legals = test .before .before in
+    c .unchanged3 .ensures
+    ∙ rw (
+      r .0,
+      r .1,
+      seen-legal (legals .before .before),
+      wanted-legal legals,
+      sym (test .before .is-same .ensures) ∙ not-true _ (test .if3 .taken),
+    )
+
+cast-after : tie.Need-cast-after
+cast-after c = search needs
+
+mul-after : tie.Need-mul-after
+mul-after c = search needs
+
+array-set-from-after : tie.Need-array-set-from-after
+array-set-from-after c = search needs
+
+returns-4 : tie.Need-returns-4
+unfolding settledOf settled stored
+returns-4 c =
+    let legals = c .before .before in
+    rw (seen-legal (legals .before .before), wanted-legal legals, sym (c .before .is-same .ensures) ∙ not-false _ (c .if3 .left))
+
+pub settle-spec : {M : Type 1} → statement M
+settle-spec =
+    tie.close
+    (tie.spec
+    is-legal-requires
+    refusal-requires
+    unchanged-requires
+    returns
+    is-legal-requires-2
+    refusal-requires-2
+    unchanged-requires-2
+    returns-2
+    is-same-requires
+    refusal-requires-3
+    unchanged-requires-3
+    returns-3
+    cast-after
+    mul-after
+    array-set-from-after
+    returns-4)

@@ -1,0 +1,11 @@
+pub mod Record
+pub mod Answer
+pub mod Table
+pub mod Steps
+pub mod Schedule
+pub mod Serial
+pub mod History
+pub mod Inner
+pub mod Promises
+pub mod Claims
+pub mod P13

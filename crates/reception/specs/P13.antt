@@ -1,0 +1,101 @@
+-- Bench case P13 (document 01, "Bench cases") as a schedule: "read Idle for request by 1; T11 is stored; the request's store is stale, record
+-- Ending; read and worked out again, reject cause 1". Assumes nothing.
+use mathlib.Core.Path.{_≡_}
+use Prim.Native.Nat.{ℕ}
+use mathlib.Core.List.{List, [], _∷_}
+use mathlib.Core.Option.{Option, none, some}
+use lib.ListN.{replicate}
+use Rattle.octets.specs.Choice.{All}
+use Rattle.sheet.specs.declared.Sheet.{Sheet}
+use Rattle.reception.specs.declared.Record.{Record}
+use Rattle.reception.specs.declared.Event.{Event}
+use Rattle.reception.specs.declared.What.the-variants.{Request, T11 as T11Expired}
+use Rattle.reception.specs.Record.{rulesOf, free, idle, watched, ending}
+use Rattle.reception.specs.Answer.{Reply, Done, granted, rejected, endRequested, Sent, T3, T5, T6, T11, Timers, grant, rejection, endRequest, timers, untouched}
+use Rattle.reception.specs.Steps.{Try, refuses, storeOf}
+use Rattle.reception.specs.Schedule.{Step, reads, worksOut, stores, packetRoutine, timerRoutine, WorkedOut, Taken, start, run, taken}
+use Rattle.reception.specs.Serial.{serial, serially}
+use Rattle.reception.specs.Claims.{events}
+
+-- sheet S
+abbrev pub sheetS : Sheet
+sheetS =
+    record {
+      server = 1000;
+      limit = 1;
+      request = 1;
+      response = 2;
+      endrequest = 3;
+      endresponse = 4;
+      txend = 5;
+      txendresponse = 6;
+      ack = 7;
+      resultid = 20;
+      seats = 3;
+      ssrcs = 1 ∷ 2 ∷ 3 ∷ 0 ∷ 0 ∷ 0 ∷ 0 ∷ 0 ∷ [];
+    }
+
+-- the eight records, stream 0 in this one and the others free
+abbrev pub stream0 : Record → List Record
+stream0 x = x ∷ replicate 7 free
+
+abbrev pub requestBy1 : Event
+requestBy1 = record { stream = 0; what = Request 1 }
+
+abbrev pub t11 : Event
+t11 = record { stream = 0; what = T11Expired }
+
+abbrev pub reply : Done → Option Sent → Timers → Reply
+reply done sends timers = record { done = done; sends = sends; timers = timers }
+
+abbrev pub rejection1 : Reply
+rejection1 = reply rejected (rejection 1) untouched
+
+abbrev pub endRequest8 : Reply
+endRequest8 = reply endRequested (endRequest 8) (timers [] (T3 ∷ []))
+
+-- the request worked out on Idle, T11 on Idle, and the request on Ending
+abbrev pub requestOnIdle : Try
+requestOnIdle =
+    record { stream = 0; seen = idle; wanted = watched 2; reply = reply granted grant (timers (T5 ∷ T11 ∷ []) (T6 ∷ [])) }
+
+abbrev pub t11OnIdle : Try
+t11OnIdle = record { stream = 0; seen = idle; wanted = ending; reply = endRequest8 }
+
+abbrev pub requestOnEnding : Try
+requestOnEnding = record { stream = 0; seen = ending; wanted = ending; reply = rejection1 }
+
+-- up to the request's first store
+abbrev pub before : List Step
+before =
+    reads packetRoutine 0
+    ∷ worksOut packetRoutine idle requestBy1
+    ∷ reads timerRoutine 0
+    ∷ worksOut timerRoutine idle t11
+    ∷ stores timerRoutine t11OnIdle t11
+    ∷ []
+
+abbrev pub steps : List Step
+steps =
+    reads packetRoutine 0
+    ∷ worksOut packetRoutine idle requestBy1
+    ∷ reads timerRoutine 0
+    ∷ worksOut timerRoutine idle t11
+    ∷ stores timerRoutine t11OnIdle t11
+    ∷ stores packetRoutine requestOnIdle requestBy1
+    ∷ reads packetRoutine 0
+    ∷ worksOut packetRoutine ending requestBy1
+    ∷ stores packetRoutine requestOnEnding requestBy1
+    ∷ []
+
+-- the events whose stores took, with their answers
+abbrev pub tookInP13 : List Taken
+tookInP13 = record { event = t11; reply = endRequest8 } ∷ record { event = requestBy1; reply = rejection1 } ∷ []
+
+pub record P13 : Type 0 where
+  pub worked : All (WorkedOut sheetS) steps
+  pub stale : storeOf sheetS requestOnIdle (run sheetS before (start (stream0 idle)) .records) .said ≡ refuses 10 0
+  pub took : taken sheetS steps (start (stream0 idle)) ≡ tookInP13
+  pub records : run sheetS steps (start (stream0 idle)) .records ≡ stream0 ending
+  pub serial-records : serial (rulesOf sheetS) (t11 ∷ requestBy1 ∷ []) (stream0 idle) ≡ stream0 ending
+  pub serial-answers : serially (rulesOf sheetS) (t11 ∷ requestBy1 ∷ []) (stream0 idle) ≡ tookInP13

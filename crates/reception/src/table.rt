@@ -1,0 +1,165 @@
+// The event table (document 01, "Stream record"): a function for each row, in the table's order.
+use super::Answer;
+use super::Phase;
+use super::Record;
+use super::What;
+use super::receivers;
+use super::stream;
+use super::stream::Rules;
+ghost use mathlib.Core.Path.{_≡_};
+ghost use Prim.Native.Nat.{_<_};
+ghost use Rattle.reception.specs.Answer.{answerSaid};
+ghost use Rattle.reception.specs.Table.{onRequest, onEnd, onOpen, onT11, onEndResponse, onRelease, ruleFor, senderOn};
+ghost use Rattle.reception.specs.Inner.{changeSaid, joined, freedReply, senderFits};
+
+// The causes that a request is rejected for, and the one that an idle stream is ended for.
+const LIMIT_REACHED: u16 = 0;
+
+const NOT_TO_BE_WATCHED: u16 = 1;
+
+const NOBODY_WATCHES: u16 = 8;
+
+// What becomes of a stream's record, and the answer.
+pub struct Change {
+    pub becomes: Record,
+    pub answer: Answer,
+}
+
+fn changed(becomes: Record, answer: Answer) -> Change
+    ensures { λ r. ⌜ (r .becomes ≡ becomes) × (r .answer ≡ answer) ⌝ }
+{
+    Change { becomes, answer }
+}
+
+// A request by a seat other than the transmitter, for a stream that is open; `granted` is the answer to one that sets the bit.
+fn join(rules: Rules, own: Record, by: u8, granted: Answer) -> Change
+    requires { ⌜ by < 8 ⌝ }
+    ensures { λ r. ⌜ changeSaid r ≡ joined rules own by (answerSaid granted) ⌝ }
+{
+    let byte = own.receivers;
+    if receivers::has(byte, by) {
+        return changed(own, Answer::GrantedAgain);
+    }
+    if rules.limit <= stream::count_of(own) {
+        return changed(own, Answer::Rejected(LIMIT_REACHED));
+    }
+    changed(stream::watched(receivers::with(byte, by)), granted)
+}
+
+fn request(rules: Rules, stream: u8, own: Record, by: u8) -> Change
+    requires { ⌜ by < 8 ⌝ }
+    ensures { λ r. ⌜ changeSaid r ≡ onRequest rules stream own by ⌝ }
+{
+    if by == stream {
+        return changed(own, Answer::Rejected(NOT_TO_BE_WATCHED));
+    }
+    let phase = own.phase;
+    match phase {
+        Phase::Free => changed(own, Answer::Rejected(NOT_TO_BE_WATCHED)),
+        Phase::Idle => join(rules, own, by, Answer::GrantedFirst),
+        Phase::Watched => join(rules, own, by, Answer::Granted),
+        Phase::Ending => changed(own, Answer::Rejected(NOT_TO_BE_WATCHED)),
+    }
+}
+
+fn end(own: Record, by: u8) -> Change
+    requires { ⌜ by < 8 ⌝ }
+    ensures { λ r. ⌜ changeSaid r ≡ onEnd own by ⌝ }
+{
+    let byte = own.receivers;
+    if !receivers::has(byte, by) {
+        return changed(own, Answer::Ended);
+    }
+    let left = receivers::without(byte, by);
+    if left == 0 {
+        return changed(stream::idle(), Answer::EndedLast);
+    }
+    changed(stream::watched(left), Answer::Ended)
+}
+
+fn open(own: Record) -> Change
+    ensures { λ r. ⌜ changeSaid r ≡ onOpen own ⌝ }
+{
+    let phase = own.phase;
+    match phase {
+        Phase::Free => changed(stream::idle(), Answer::Opened),
+        Phase::Idle => changed(own, Answer::Discarded),
+        Phase::Watched => changed(own, Answer::Discarded),
+        Phase::Ending => changed(own, Answer::Discarded),
+    }
+}
+
+fn t11(own: Record) -> Change
+    ensures { λ r. ⌜ changeSaid r ≡ onT11 own ⌝ }
+{
+    let phase = own.phase;
+    match phase {
+        Phase::Free => changed(own, Answer::Discarded),
+        Phase::Idle => changed(stream::ending(), Answer::EndRequested(NOBODY_WATCHES)),
+        Phase::Watched => changed(own, Answer::Discarded), // T11 ran out late
+        Phase::Ending => changed(own, Answer::Discarded),
+    }
+}
+
+// The answer to an end response that frees the stream.
+fn freed(ack: bool) -> Answer
+    ensures { λ r. ⌜ answerSaid r ≡ freedReply ack ⌝ }
+{
+    if ack {
+        return Answer::FreedWithAck;
+    }
+    Answer::Freed
+}
+
+fn end_response(own: Record, ack: bool) -> Change
+    ensures { λ r. ⌜ changeSaid r ≡ onEndResponse own ack ⌝ }
+{
+    let phase = own.phase;
+    match phase {
+        Phase::Free => changed(own, Answer::Discarded),
+        Phase::Idle => changed(own, Answer::Discarded),
+        Phase::Watched => changed(own, Answer::Discarded),
+        Phase::Ending => changed(stream::free(), freed(ack)),
+    }
+}
+
+fn release(own: Record) -> Change
+    ensures { λ r. ⌜ changeSaid r ≡ onRelease own ⌝ }
+{
+    let phase = own.phase;
+    match phase {
+        Phase::Free => changed(own, Answer::Discarded),
+        Phase::Idle => changed(stream::free(), Answer::ReleasedIdle),
+        Phase::Watched => changed(stream::free(), Answer::ReleasedWatched),
+        Phase::Ending => changed(stream::free(), Answer::ReleasedEnding),
+    }
+}
+
+// Whether the seat that an event comes from, if it names one, is on the sheet.
+pub fn is_sender_on(rules: Rules, what: What) -> bool
+    ensures { λ r. ⌜ r ≡ senderOn rules what ⌝ }
+{
+    match what {
+        What::Request(by) => stream::is_on(rules, by),
+        What::End(by) => stream::is_on(rules, by),
+        What::Open => true,
+        What::T11 => true,
+        What::EndResponse(_) => true,
+        What::Release => true,
+    }
+}
+
+// What an event makes of a stream's record.
+pub fn change_of(rules: Rules, stream: u8, own: Record, what: What) -> Change
+    requires { ⌜ senderFits what ⌝ }
+    ensures { λ r. ⌜ changeSaid r ≡ ruleFor rules stream own what ⌝ }
+{
+    match what {
+        What::Request(by) => request(rules, stream, own, by),
+        What::End(by) => end(own, by),
+        What::Open => open(own),
+        What::T11 => t11(own),
+        What::EndResponse(ack) => end_response(own, ack),
+        What::Release => release(own),
+    }
+}
