@@ -8,7 +8,7 @@ use Rattle.reception.specs.declared.Answer.the-variants.{GrantedFirst, G
 
 -- ---- the parts of an answer
 
--- what was done
+-- what was done: message and timers alone do not tell an end response that frees from a release, nor a release from an event that is discarded
 pub data Done : Type 0 where
   granted : Done
   rejected : Done

@@ -2,10 +2,11 @@
 use mathlib.Core.Path.{_≡_}
 use mathlib.Core.Logic.{_↔_}
 use Prim.Native.Nat.{ℕ, _^_, _<_}
-use mathlib.Core.Bool.{Bool, false}
-use mathlib.Core.List.{List, [], _∷_, map}
-use lib.ListN.{length, replicate}
-use lib.Dec.{T, ltb}
+use mathlib.Core.Bool.{false, not, _&&_, _||_}
+use mathlib.Core.List.{List, map}
+use mathlib.Core.Option.{none}
+use lib.ListN.{length}
+use lib.Dec.{T, eqb, ltb}
 use Rattle.octets.specs.Choice.{pick, All}
 use Rattle.sheet.specs.declared.Sheet.{Sheet}
 use Rattle.sheet.specs.Table.{mostSeats}
@@ -13,35 +14,73 @@ use Rattle.sheet.specs.Value.{validAlone}
 use Rattle.reception.specs.declared.Phase.the-variants.{Ending}
 use Rattle.reception.specs.declared.Record.{Record}
 use Rattle.reception.specs.declared.Event.{Event}
-use Rattle.reception.specs.Record.{rulesOf, onSheet, watches, free, count, is, sameRecord, legal}
-use Rattle.reception.specs.Answer.{Reply, granted, discarded}
-use Rattle.reception.specs.Steps.{gives, refuses, leaving, own, Try, attemptOf, storeOf}
-use Rattle.reception.specs.Schedule.{Routine, Step, stores, WorkedOut, Taken, start, run, taken}
-use Rattle.reception.specs.Serial.{serial, serially}
+use Rattle.reception.specs.declared.What.{What}
+use Rattle.reception.specs.declared.stream.Rules.{Rules}
+use Rattle.reception.specs.Record.{rulesOf, onSheet, watches, setBit, clearBit, free, count, is, sameRecord, legal, own, allFree}
+use Rattle.reception.specs.Answer.{Reply, granted, discarded, grant, untouched}
+use Rattle.reception.specs.Table.{ruleFor, senderOn, Answered}
+use Rattle.reception.specs.Steps.{gives, refuses, leaving, Try, readOf, attemptOf, workOf, storeOf, countOf}
+use Rattle.reception.specs.Schedule.{Routine, Step, stores, WorkedOut, start, run, taken}
+use Rattle.reception.specs.Serial.{ruled, next, recordsInTurn, answersInTurn}
 use Rattle.reception.specs.History.{ofStream, shownCount}
 
--- ---- legal records
+-- ---- records
+
+-- To set a bit sets that bit alone, and to clear one clears that one alone.
+abbrev pub SetsOne : Type 0
+SetsOne = (b r p : ℕ) → watches (setBit b r) p ≡ (eqb p r || watches b p)
+
+abbrev pub ClearsOne : Type 0
+ClearsOne = (b r p : ℕ) → watches (clearBit b r) p ≡ (watches b p && not (eqb p r))
 
 -- "no bit of a seat not on the sheet": a byte is below 2 ^ n exactly if each seat that watches is one of n
 abbrev pub OnSheetExactly : Type 0
 OnSheetExactly = (n b : ℕ) → T (ltb b (2 ^ n)) ↔ ((r : ℕ) → T (watches b r) → r < n)
 
--- Working out from a legal record gives a legal record.
-abbrev pub WorksOutLegal : Type 0
-WorksOutLegal = (s : Sheet) (x : Record) (e : Event) (a : Try) → attemptOf s x e ≡ gives a → T (legal (rulesOf s) (a .stream) (a .wanted))
-
--- A discarded event keeps the record.
-abbrev pub DiscardKeeps : Type 0
-DiscardKeeps = (s : Sheet) (x : Record) (e : Event) (a : Try) → attemptOf s x e ≡ gives a → a .reply .done ≡ discarded → a .wanted ≡ x
+-- Two records are the same exactly if they are equal.
+abbrev pub SameExactly : Type 0
+SameExactly = (x y : Record) → T (sameRecord x y) ↔ (x ≡ y)
 
 -- Eight records are legal if each seat on the sheet has a legal one and every other is Free.
 pub record Legal (s : Sheet) (rs : List Record) : Type 0 where
   pub eight : length rs ≡ mostSeats
   pub each : (k : ℕ) → k < mostSeats → T (pick (onSheet (rulesOf s) k) (legal (rulesOf s) k (own rs k)) (sameRecord (own rs k) free))
 
--- Every schedule keeps them legal, whatever it stores.
-abbrev pub StaysLegal : Type 0
-StaysLegal = (s : Sheet) (rs : List Record) (steps : List Step) → Legal s rs → Legal s (run s steps (start rs) .records)
+-- So are those of streams that are all free.
+abbrev pub StartsLegal : Type 0
+StartsLegal = (s : Sheet) → Legal s allFree
+
+-- ---- the table
+
+-- A grant is answered exactly where a granted response is sent.
+abbrev pub GrantedExactly : Type 0
+GrantedExactly = (q : Rules) (s : ℕ) (x : Record) (w : What) → (ruleFor q s x w .reply .done ≡ granted) ↔ (ruleFor q s x w .reply .sends ≡ grant)
+
+-- ---- reading and working out
+
+-- "Read gives one record and changes nothing": that of the stream, if it is on the sheet and legal.
+abbrev pub ReadRule : Type 0
+ReadRule =
+    (s : Sheet) (stream : ℕ) (rs : List Record)
+    → (readOf s stream rs .records ≡ rs)
+    × (T (validAlone s) → T (onSheet (rulesOf s) stream) → T (legal (rulesOf s) stream (own rs stream)) → readOf s stream rs .said ≡ gives (own rs stream))
+
+-- Working out changes nothing either.
+abbrev pub WorkRule : Type 0
+WorkRule = (s : Sheet) (x : Record) (e : Event) (rs : List Record) → workOf s x e rs .records ≡ rs
+
+-- From a legal record it gives a legal record.
+abbrev pub WorksOutLegal : Type 0
+WorksOutLegal = (s : Sheet) (x : Record) (e : Event) (a : Try) → attemptOf s x e ≡ gives a → T (legal (rulesOf s) (a .stream) (a .wanted))
+
+-- "Discarded: record kept, no message, no timer".
+pub record Kept (x : Record) (a : Try) : Type 0 where
+  pub same : a .wanted ≡ x
+  pub silent : a .reply .sends ≡ none
+  pub still : a .reply .timers ≡ untouched
+
+abbrev pub DiscardKeeps : Type 0
+DiscardKeeps = (s : Sheet) (x : Record) (e : Event) (a : Try) → attemptOf s x e ≡ gives a → a .reply .done ≡ discarded → Kept x a
 
 -- ---- the store rule
 
@@ -66,36 +105,54 @@ pub record Stores (s : Sheet) (a : Try) (rs : List Record) : Type 0 where
 abbrev pub StoreRule : Type 0
 StoreRule = (s : Sheet) (a : Try) (rs : List Record) → Storable s a rs → Stores s a rs
 
--- ---- demand 3
+-- Whatever it is refused for, all eight are untouched.
+abbrev pub RefusedKeeps : Type 0
+RefusedKeeps = (s : Sheet) (a : Try) (rs : List Record) (number at : ℕ) → storeOf s a rs .said ≡ refuses number at → storeOf s a rs .records ≡ rs
 
--- the events of a list
-abbrev pub events : List Taken → List Event
-events ts = map (λ (t : Taken). t .event) ts
+-- Every schedule keeps eight legal records legal, whatever it stores: seats not on the sheet stay Free.
+abbrev pub StaysLegal : Type 0
+StaysLegal = (s : Sheet) (rs : List Record) (steps : List Step) → Legal s rs → Legal s (run s steps (start rs) .records)
 
--- Two routines that read, work out and store in any order, with stale and repeated attempts, leave the records and the answers of the taken
--- events run one after another. (It holds of any records; legal ones stay legal.)
+-- ---- demand 3: "Two routines that read, work out and store in any order, with stale and repeated attempts, leave the records and answers of
+-- the taken events run one after another; and a stream's count is what the history of its taken events says."
+
+-- Undisturbed, an event on the sheet is worked out from the record as it is, its store takes, and both do what the table says.
+abbrev pub Undisturbed : Type 0
+Undisturbed =
+    (s : Sheet) (rs : List Record) (e : Event)
+    → T (validAlone s) → Legal s rs → T (onSheet (rulesOf s) (e .stream)) → T (senderOn (rulesOf s) (e .what))
+    → (a : Try) × (attemptOf s (own rs (e .stream)) e ≡ gives a) × (storeOf s a rs ≡ leaving (next (rulesOf s) e rs) (gives (ruled (rulesOf s) e rs .reply)))
+
+abbrev pub events : List Answered → List Event
+events ts = map (λ (t : Answered). t .event) ts
+
+-- Whatever the schedule: the records at the end, and the answer of every store that took, are those of the taken events one after another.
+-- (It holds of any records; legal ones stay legal.)
 abbrev pub SerialOrder : Type 0
 SerialOrder =
     (s : Sheet) (rs : List Record) (steps : List Step) → All (WorkedOut s) steps
-    → (run s steps (start rs) .records ≡ serial (rulesOf s) (events (taken s steps (start rs))) rs)
-    × (taken s steps (start rs) ≡ serially (rulesOf s) (events (taken s steps (start rs))) rs)
+    → (run s steps (start rs) .records ≡ recordsInTurn (rulesOf s) (events (taken s steps (start rs))) rs)
+    × (taken s steps (start rs) ≡ answersInTurn (rulesOf s) (events (taken s steps (start rs))) rs)
 
--- all streams free
-abbrev pub allFree : List Record
-allFree = replicate mostSeats free
-
--- A stream's count is what the history of its taken events says, from all streams free.
+-- From all streams free, a stream's count is what the history of its taken events says ..
 abbrev pub CountFromHistory : Type 0
 CountFromHistory =
     (s : Sheet) (steps : List Step) (stream : ℕ) → All (WorkedOut s) steps
     → count (own (run s steps (start allFree) .records) stream)
-    ≡ shownCount (ofStream stream (serially (rulesOf s) (events (taken s steps (start allFree))) allFree))
+    ≡ shownCount (ofStream stream (answersInTurn (rulesOf s) (events (taken s steps (start allFree))) allFree))
 
--- The accident cannot happen: whatever ran before, a store that took and answers "granted" finds the stream's record as it was seen, and
--- not Ending: no handset is told "granted" for a picture being shut off.
+-- .. and that is the count that is told.
+abbrev pub CountTold : Type 0
+CountTold =
+    (s : Sheet) (steps : List Step) (stream : ℕ) → All (WorkedOut s) steps → T (validAlone s) → T (onSheet (rulesOf s) stream)
+    → countOf s stream (run s steps (start allFree) .records) .said
+    ≡ gives (shownCount (ofStream stream (answersInTurn (rulesOf s) (events (taken s steps (start allFree))) allFree)))
+
+-- The accident cannot happen: whatever ran before, a store that took and sends "granted" finds the stream's record as it was seen, and not
+-- Ending: no handset is told "granted" for a picture being shut off.
 abbrev pub NoAccident : Type 0
 NoAccident =
-    (s : Sheet) (rs : List Record) (before : List Step) (q : Routine) (a : Try) (e : Event) (reply : Reply)
-    → All (WorkedOut s) before → WorkedOut s (stores q a e)
-    → storeOf s a (run s before (start rs) .records) .said ≡ gives reply → reply .done ≡ granted
+    (s : Sheet) (rs : List Record) (before : List Step) (by : Routine) (a : Try) (e : Event) (reply : Reply)
+    → All (WorkedOut s) before → WorkedOut s (stores by a e)
+    → storeOf s a (run s before (start rs) .records) .said ≡ gives reply → reply .sends ≡ grant
     → (own (run s before (start rs) .records) (a .stream) ≡ a .seen) × (is Ending (own (run s before (start rs) .records) (a .stream)) ≡ false)

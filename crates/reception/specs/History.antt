@@ -1,5 +1,6 @@
--- What the history of a stream's taken events says of its count (the third demand's last sentence). It goes by the list of events with
--- their answers alone, seat by seat and by positions. Assumes nothing.
+-- What the history of a stream's taken events says of its count: the seats that were granted since it last went from free to open, with no
+-- end by that seat and no release of the stream since that seat's latest grant. It goes by the list of events with their answers
+-- alone, seat by seat and by positions. Assumes nothing.
 use Prim.Native.Nat.{ℕ, zero, suc}
 use mathlib.Core.Bool.{Bool, true, false, not, _&&_}
 use mathlib.Core.List.{List, [], _∷_, _++_}
@@ -10,11 +11,11 @@ use Rattle.sheet.specs.Table.{mostSeats}
 use Rattle.reception.specs.declared.What.{What}
 use Rattle.reception.specs.declared.What.the-variants.{Request, End, Open, T11, EndResponse, Release}
 use Rattle.reception.specs.Answer.{Done, granted, rejected, ended, opened, endRequested, freed, released, discarded}
-use Rattle.reception.specs.Schedule.{Taken}
+use Rattle.reception.specs.Table.{Answered}
 
--- the taken events of one stream
-unfoldable pub ofStream : ℕ → List Taken → List Taken
-ofStream s ts = keep (λ (t : Taken). eqb (t .event .stream) s) ts
+-- the events of one stream
+unfoldable pub ofStream : ℕ → List Answered → List Answered
+ofStream s ts = keep (λ (t : Answered). eqb (t .event .stream) s) ts
 
 -- ---- what one event with its answer says of a seat
 
@@ -47,20 +48,20 @@ grants r T11 done = false
 grants r (EndResponse asked) done = false
 grants r Release done = false
 
--- "an end by it, a release, or an opening that opened"
-abbrev pub ends : ℕ → What → Done → Bool
-ends r (Request by) done = false
-ends r (End by) done = eqb by r
-ends r Open done = hasOpened done
-ends r T11 done = false
-ends r (EndResponse asked) done = false
-ends r Release done = true
+-- an end by it, a release, or an opening that opened
+abbrev pub undoes : ℕ → What → Done → Bool
+undoes r (Request by) done = false
+undoes r (End by) done = eqb by r
+undoes r Open done = hasOpened done
+undoes r T11 done = false
+undoes r (EndResponse asked) done = false
+undoes r Release done = true
 
-abbrev pub grantsAt : ℕ → Taken → Bool
+abbrev pub grantsAt : ℕ → Answered → Bool
 grantsAt r t = grants r (t .event .what) (t .reply .done)
 
-abbrev pub endsAt : ℕ → Taken → Bool
-endsAt r t = ends r (t .event .what) (t .reply .done)
+abbrev pub undoesAt : ℕ → Answered → Bool
+undoesAt r t = undoes r (t .event .what) (t .reply .done)
 
 -- ---- what the history says of a seat
 
@@ -69,15 +70,15 @@ unfoldable pub places : ℕ → List ℕ
 places zero = []
 places (suc n) = places n ++ (n ∷ [])
 
--- the first event grants, and no later one ends
-unfoldable pub lasts : ℕ → List Taken → Bool
+-- the first event grants, and no later one undoes
+unfoldable pub lasts : ℕ → List Answered → Bool
 lasts r [] = false
-lasts r (t ∷ later) = grantsAt r t && not (some-of (endsAt r) later)
+lasts r (t ∷ later) = grantsAt r t && not (some-of (undoesAt r) later)
 
--- "at some position it asked and was granted and at no later position there is an end by it, a release, or an opening that opened"
-unfoldable pub shown : ℕ → List Taken → Bool
+-- at some position it asked and was granted, and at no later position there is an end by it, a release, or an opening that opened
+unfoldable pub shown : ℕ → List Answered → Bool
 shown r ts = some-of (λ (i : ℕ). lasts r (drop i ts)) (places (length ts))
 
--- "the count is the number of such seats"
-unfoldable pub shownCount : List Taken → ℕ
+-- the number of such seats
+unfoldable pub shownCount : List Answered → ℕ
 shownCount ts = length (keep (λ (r : ℕ). shown r ts) (places mostSeats))

@@ -1,20 +1,17 @@
 -- What the inner functions say. The public promises rest on these, and nobody need believe them: each is only a step of a proof.
 -- Assumes nothing.
-use mathlib.Core.Path.{_≡_}
-use Prim.Native.Nat.{ℕ, _<_}
+use Prim.Native.Nat.{ℕ}
 use mathlib.Core.Bool.{Bool, _&&_}
 use mathlib.Core.List.{List, [], _∷_}
 use mathlib.Core.Option.{none}
 use lib.Dec.{leb}
 use Rattle.octets.specs.Choice.{pick}
 use Rattle.reception.specs.declared.Record.{Record}
-use Rattle.reception.specs.declared.What.{What}
-use Rattle.reception.specs.declared.What.the-variants.{Request, End, Open, T11, EndResponse, Release}
 use Rattle.reception.specs.declared.stream.Rules.{Rules}
 use Rattle.reception.specs.declared.table.Change.{Change}
 use Rattle.reception.specs.Record.{watches, setBit, watched, count, sameRecord, legal}
 use Rattle.reception.specs.Answer.{Reply, T3, granted, freed, grant, ack, timers, untouched, answerSaid}
-use Rattle.reception.specs.Table.{Ruling, ruling, reject}
+use Rattle.reception.specs.Table.{insufficientDownlinkBandwidth, Ruling, ruling, reject}
 use Rattle.reception.specs.Steps.{Said, gives, Left, leaving, check, Try, stored}
 
 abbrev pub changeSaid : Change → Ruling
@@ -25,20 +22,11 @@ unfoldable pub joined : Rules → Record → ℕ → Reply → Ruling
 joined q x r reply =
     let b = x .receivers in
     pick (watches b r) (ruling x granted grant untouched)
-    (pick (leb (q .limit) (count x)) (reject x 0) (record { becomes = watched (setBit b r); reply = reply }))
+    (pick (leb (q .limit) (count x)) (reject x insufficientDownlinkBandwidth) (record { becomes = watched (setBit b r); reply = reply }))
 
 -- the answer to an end response that frees the stream
 abbrev pub freedReply : Bool → Reply
 freedReply asked = record { done = freed; sends = pick asked ack none; timers = timers (T3 ∷ []) [] }
-
--- the seat that an event comes from, if it names one, has a bit in the byte
-abbrev pub senderFits : What → Type 0
-senderFits (Request by) = by < 8
-senderFits (End by) = by < 8
-senderFits Open = Unit {0}
-senderFits T11 = Unit {0}
-senderFits (EndResponse asked) = Unit {0}
-senderFits Release = Unit {0}
 
 -- a store where the stream's own record is known and legal
 unfoldable pub settled : Rules → Try → Record → Said Reply

@@ -1,9 +1,8 @@
 -- Bench case P13 (document 01, "Bench cases") as a schedule: "read Idle for request by 1; T11 is stored; the request's store is stale, record
 -- Ending; read and worked out again, reject cause 1". Assumes nothing.
 use mathlib.Core.Path.{_≡_}
-use Prim.Native.Nat.{ℕ}
-use mathlib.Core.List.{List, [], _∷_}
-use mathlib.Core.Option.{Option, none, some}
+use mathlib.Core.List.{List, [], _∷_, _++_}
+use mathlib.Core.Option.{Option, some}
 use lib.ListN.{replicate}
 use Rattle.octets.specs.Choice.{All}
 use Rattle.sheet.specs.declared.Sheet.{Sheet}
@@ -12,10 +11,11 @@ use Rattle.reception.specs.declared.Event.{Event}
 use Rattle.reception.specs.declared.What.the-variants.{Request, T11 as T11Expired}
 use Rattle.reception.specs.Record.{rulesOf, free, idle, watched, ending}
 use Rattle.reception.specs.Answer.{Reply, Done, granted, rejected, endRequested, Sent, T3, T5, T6, T11, Timers, grant, rejection, endRequest, timers, untouched}
-use Rattle.reception.specs.Steps.{Try, refuses, storeOf}
-use Rattle.reception.specs.Schedule.{Step, reads, worksOut, stores, packetRoutine, timerRoutine, WorkedOut, Taken, start, run, taken}
-use Rattle.reception.specs.Serial.{serial, serially}
-use Rattle.reception.specs.Claims.{events}
+use Rattle.reception.specs.Table.{Answered}
+use Rattle.reception.specs.Steps.{leaving, refuses, Try, storeOf}
+use Rattle.reception.specs.Schedule.{Step, reads, worksOut, stores, packetRoutine, timerRoutine, WorkedOut, State, start, run, taken}
+use Rattle.reception.specs.Serial.{recordsInTurn, answersInTurn}
+use Rattle.reception.specs.Claims.{Legal}
 
 -- sheet S
 abbrev pub sheetS : Sheet
@@ -77,25 +77,36 @@ before =
 
 abbrev pub steps : List Step
 steps =
-    reads packetRoutine 0
-    ∷ worksOut packetRoutine idle requestBy1
-    ∷ reads timerRoutine 0
-    ∷ worksOut timerRoutine idle t11
-    ∷ stores timerRoutine t11OnIdle t11
-    ∷ stores packetRoutine requestOnIdle requestBy1
+    before
+    ++ (stores packetRoutine requestOnIdle requestBy1
     ∷ reads packetRoutine 0
     ∷ worksOut packetRoutine ending requestBy1
     ∷ stores packetRoutine requestOnEnding requestBy1
-    ∷ []
+    ∷ [])
+
+-- the states before the stale store and at the end
+abbrev pub atStale : State
+atStale = run sheetS before (start (stream0 idle))
+
+abbrev pub atEnd : State
+atEnd = run sheetS steps (start (stream0 idle))
 
 -- the events whose stores took, with their answers
-abbrev pub tookInP13 : List Taken
-tookInP13 = record { event = t11; reply = endRequest8 } ∷ record { event = requestBy1; reply = rejection1 } ∷ []
+abbrev pub took : List Answered
+took = record { event = t11; reply = endRequest8 } ∷ record { event = requestBy1; reply = rejection1 } ∷ []
 
 pub record P13 : Type 0 where
-  pub worked : All (WorkedOut sheetS) steps
-  pub stale : storeOf sheetS requestOnIdle (run sheetS before (start (stream0 idle)) .records) .said ≡ refuses 10 0
-  pub took : taken sheetS steps (start (stream0 idle)) ≡ tookInP13
-  pub records : run sheetS steps (start (stream0 idle)) .records ≡ stream0 ending
-  pub serial-records : serial (rulesOf sheetS) (t11 ∷ requestBy1 ∷ []) (stream0 idle) ≡ stream0 ending
-  pub serial-answers : serially (rulesOf sheetS) (t11 ∷ requestBy1 ∷ []) (stream0 idle) ≡ tookInP13
+  -- it is a schedule of demand 3, from legal records
+  pub worked-out : All (WorkedOut sheetS) steps
+  pub starts-legal : Legal sheetS (stream0 idle)
+  -- "read Idle for request by 1; T11 is stored; the request's store is stale, record Ending"
+  pub read-idle : atStale .lastRead packetRoutine 0 ≡ some idle
+  pub ending-then : atStale .records ≡ stream0 ending
+  pub stale : storeOf sheetS requestOnIdle (atStale .records) ≡ leaving (stream0 ending) (refuses 10 0)
+  -- "read and worked out again, reject cause 1"
+  pub read-ending : atEnd .lastRead packetRoutine 0 ≡ some ending
+  pub taken-events : taken sheetS steps (start (stream0 idle)) ≡ took
+  pub records : atEnd .records ≡ stream0 ending
+  -- the same as the two taken events one after another
+  pub records-in-turn : recordsInTurn (rulesOf sheetS) (t11 ∷ requestBy1 ∷ []) (stream0 idle) ≡ stream0 ending
+  pub answers-in-turn : answersInTurn (rulesOf sheetS) (t11 ∷ requestBy1 ∷ []) (stream0 idle) ≡ took

@@ -4,7 +4,7 @@ use mathlib.Core.Path.{_≡_, refl, sym, ap, _∙_}
 use Prim.Native.Nat.{ℕ}
 use mathlib.Core.List.{List, [], _∷_}
 use mathlib.Core.Option.{Option, none, some}
-use Rattle.octets.specs.Promises.{one-answer}
+use Rattle.octets.specs.Promises.{one-answer, one-value}
 use Rattle.sheet.specs.declared.Sheet.{Sheet}
 use Rattle.sheet.specs.declared.Refusal.{Refusal}
 use Rattle.reception.specs.declared.Record.{Record}
@@ -21,6 +21,7 @@ use Rattle.reception.specs.declared.Taking.the-variants.{Took, Refused a
 use Rattle.reception.specs.declared.Stored.{Stored}
 use Rattle.reception.specs.declared.Counted.{Counted}
 use Rattle.reception.specs.declared.Counted.the-variants.{Count, Refused as CountedRefused}
+use Rattle.reception.specs.Record.{allFree}
 use Rattle.reception.specs.Answer.{Sent, Timer, T3, T5, T6, T11, Timers, Done, granted, rejected, ended, opened, endRequested, freed, released, discarded, Reply, answerSaid}
 use Rattle.reception.specs.Steps.{Said, gives, refuses, Left, leaving, Try, readOf, workOf, storeOf, countOf, seenSaid, attemptSaid, workedSaid, takingSaid, storedSaid, countedSaid}
 
@@ -169,3 +170,12 @@ count≡ sheet rs stream r = leaving rs (countedSaid r) ≡ countOf sheet stream
 
 pub count-once : (sheet : Sheet) (rs : List Record) (stream : ℕ) (x y : Counted) → count≡ sheet rs stream x → count≡ sheet rs stream y → x ≡ y
 count-once sheet rs stream x y p q = one-left countedSaid counted-apart x y p q
+
+-- ---- where a controller starts
+
+-- all streams free
+abbrev pub all-free≡ : List Record → Type 0
+all-free≡ r = r ≡ allFree
+
+pub all-free-once : (x y : List Record) → all-free≡ x → all-free≡ y → x ≡ y
+all-free-once x y p q = one-value x y p q

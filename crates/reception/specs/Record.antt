@@ -2,10 +2,13 @@
 -- compared and judged by the definitions of this file alone. Assumes nothing.
 use Prim.Native.Nat.{ℕ, _+_, _-_, _/_, _%_, _^_}
 use mathlib.Core.Bool.{Bool, not, _&&_}
+use mathlib.Core.List.{List}
+use lib.ListN.{getD, replicate}
 use lib.Count.{ones}
 use lib.Dec.{eqb, leb, ltb}
 use Rattle.octets.specs.Choice.{pick}
 use Rattle.sheet.specs.declared.Sheet.{Sheet}
+use Rattle.sheet.specs.Table.{mostSeats}
 use Rattle.reception.specs.declared.Phase.{Phase}
 use Rattle.reception.specs.declared.Phase.the-variants.{Free, Idle, Watched, Ending}
 use Rattle.reception.specs.declared.Record.{Record}
@@ -77,13 +80,23 @@ goodReceivers q s x =
     let b = x .receivers in
     not (eqb b 0) && (not (watches b s) && (ltb b (2 ^ q .seats) && leb (count x) (q .limit)))
 
--- "Free, Idle and Ending have byte 0"
+-- "Free, Idle and Ending have byte 0": each is the one record of its phase
 unfoldable pub legalIn : Phase → Rules → ℕ → Record → Bool
-legalIn Free q s x = eqb (x .receivers) 0
-legalIn Idle q s x = eqb (x .receivers) 0
+legalIn Free q s x = sameRecord x free
+legalIn Idle q s x = sameRecord x idle
 legalIn Watched q s x = goodReceivers q s x
-legalIn Ending q s x = eqb (x .receivers) 0
+legalIn Ending q s x = sameRecord x ending
 
 -- a record that is legal for stream s
 unfoldable pub legal : Rules → ℕ → Record → Bool
 legal q s x = legalIn (x .phase) q s x
+
+-- ---- the eight records
+
+-- the record of stream s
+abbrev pub own : List Record → ℕ → Record
+own rs s = getD rs s free
+
+-- all streams free
+abbrev pub allFree : List Record
+allFree = replicate mostSeats free

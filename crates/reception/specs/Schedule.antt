@@ -1,6 +1,6 @@
--- Two routines that read, work out and store in any order (the engineer's third demand; document 01, "Three steps": "A read and a store
--- each run whole"). Every step is threaded through the eight records by the definition that its function's own statement cites.
--- Assumes nothing.
+-- Two routines that read, work out and store in any order (document 01, "Three steps": "A read and a store each run whole, with no read or
+-- store of the other routine inside"). Every step is threaded through the eight records by the definition that its function's own
+-- statement cites. Assumes nothing.
 use mathlib.Core.Path.{_≡_}
 use Prim.Native.Nat.{ℕ}
 use mathlib.Core.Bool.{Bool, true, false, _&&_}
@@ -12,6 +12,7 @@ use Rattle.sheet.specs.declared.Sheet.{Sheet}
 use Rattle.reception.specs.declared.Record.{Record}
 use Rattle.reception.specs.declared.Event.{Event}
 use Rattle.reception.specs.Answer.{Reply}
+use Rattle.reception.specs.Table.{Answered}
 use Rattle.reception.specs.Steps.{Said, gives, refuses, Try, readOf, attemptOf, workOf, storeOf}
 
 -- ---- steps
@@ -36,9 +37,9 @@ pub data Step : Type 0 where
 -- the attempt of a store is one that the working-out gave under the sheet for the event it names and some record: fresh, stale,
 -- repeated or the other routine's
 abbrev pub WorkedOut : Sheet → Step → Type 0
-WorkedOut s (reads q stream) = Unit {0}
-WorkedOut s (worksOut q x e) = Unit {0}
-WorkedOut s (stores q a e) = (x : Record) × (attemptOf s x e ≡ gives a)
+WorkedOut s (reads by stream) = Unit {0}
+WorkedOut s (worksOut by x e) = Unit {0}
+WorkedOut s (stores by a e) = (x : Record) × (attemptOf s x e ≡ gives a)
 
 -- ---- what a step does
 
@@ -47,37 +48,33 @@ pub record State : Type 0 where
   pub records : List Record
   pub lastRead : Routine → ℕ → Option Record
 
--- a routine's latest reading of a stream
+-- a routine's latest reading of a stream; a read that is refused leaves the earlier one
 unfoldable pub noted : Routine → ℕ → Said Record → (Routine → ℕ → Option Record) → Routine → ℕ → Option Record
-noted q s (gives x) before r t = pick (sameRoutine q r && eqb s t) (some x) (before r t)
-noted q s (refuses number at) before r t = before r t
+noted by stream (gives x) before r s = pick (sameRoutine by r && eqb stream s) (some x) (before r s)
+noted by stream (refuses number at) before r s = before r s
 
 unfoldable pub after : Sheet → Step → State → State
-after s (reads q stream) m =
+after s (reads by stream) m =
     let r = readOf s stream (m .records) in
-    record { records = r .records; lastRead = noted q stream (r .said) (m .lastRead) }
-after s (worksOut q x e) m = record { records = workOf s x e (m .records) .records; lastRead = m .lastRead }
-after s (stores q a e) m = record { records = storeOf s a (m .records) .records; lastRead = m .lastRead }
+    record { records = r .records; lastRead = noted by stream (r .said) (m .lastRead) }
+after s (worksOut by x e) m = record { records = workOf s x e (m .records) .records; lastRead = m .lastRead }
+after s (stores by a e) m = record { records = storeOf s a (m .records) .records; lastRead = m .lastRead }
 
--- an event whose store took, and its answer: "Nothing is sent before its store took"
-pub record Taken : Type 0 where
-  pub event : Event
-  pub reply : Reply
+-- its event with the answer, if the store took: "Nothing is sent before its store took"
+unfoldable pub ifTook : Event → Said Reply → List Answered
+ifTook e (gives reply) = record { event = e; reply = reply } ∷ []
+ifTook e (refuses number at) = []
 
-unfoldable pub taking : Event → Said Reply → List Taken
-taking e (gives reply) = record { event = e; reply = reply } ∷ []
-taking e (refuses number at) = []
-
-unfoldable pub takenAt : Sheet → Step → State → List Taken
-takenAt s (reads q stream) m = []
-takenAt s (worksOut q x e) m = []
-takenAt s (stores q a e) m = taking e (storeOf s a (m .records) .said)
+unfoldable pub takenAt : Sheet → Step → State → List Answered
+takenAt s (reads by stream) m = []
+takenAt s (worksOut by x e) m = []
+takenAt s (stores by a e) m = ifTook e (storeOf s a (m .records) .said)
 
 -- ---- a schedule: any list of steps
 
 -- where nothing was read yet
 abbrev pub start : List Record → State
-start rs = record { records = rs; lastRead = λ (q : Routine) (s : ℕ). none }
+start rs = record { records = rs; lastRead = λ (r : Routine) (s : ℕ). none }
 
 -- the state after it
 unfoldable pub run : Sheet → List Step → State → State
@@ -85,6 +82,6 @@ run s [] m = m
 run s (x ∷ xs) m = run s xs (after s x m)
 
 -- its taken events with their answers, in the order of their stores
-unfoldable pub taken : Sheet → List Step → State → List Taken
+unfoldable pub taken : Sheet → List Step → State → List Answered
 taken s [] m = []
 taken s (x ∷ xs) m = takenAt s x m ++ taken s xs (after s x m)

@@ -3,7 +3,7 @@
 use Prim.Native.Nat.{ℕ}
 use mathlib.Core.Bool.{Bool, _&&_}
 use mathlib.Core.List.{List}
-use lib.ListN.{getD, set}
+use lib.ListN.{set}
 use Rattle.octets.specs.Choice.{pick}
 use Rattle.sheet.specs.declared.Sheet.{Sheet}
 use Rattle.sheet.specs.declared.Refusal.{Refusal}
@@ -20,7 +20,7 @@ use Rattle.reception.specs.declared.Taking.the-variants.{Took, Refused a
 use Rattle.reception.specs.declared.Stored.{Stored}
 use Rattle.reception.specs.declared.Counted.{Counted}
 use Rattle.reception.specs.declared.Counted.the-variants.{Count, Refused as CountedRefused}
-use Rattle.reception.specs.Record.{rulesOf, onSheet, free, count, sameRecord, legal}
+use Rattle.reception.specs.Record.{rulesOf, onSheet, own, count, sameRecord, legal}
 use Rattle.reception.specs.Answer.{Reply, answerSaid}
 use Rattle.reception.specs.Table.{ruleFor, senderOn}
 
@@ -42,10 +42,6 @@ leaving rs a = record { records = rs; said = a }
 -- a refusal "returns its number only"
 abbrev pub check : {A : Type 0} → Bool → ℕ → Said A → Said A
 check right number next = pick right next (refuses number 0)
-
--- the record of stream s among the eight
-abbrev pub own : List Record → ℕ → Record
-own rs s = getD rs s free
 
 -- an attempt: "stream, record seen, record wanted, answer"
 pub record Try : Type 0 where
@@ -82,8 +78,8 @@ workOf s x e rs = leaving rs (attemptOf s x e)
 -- ---- "Store takes if the record still equals the one seen, and then holds the one wanted; otherwise it is stale. No other record changes"
 
 -- 9 for "the stream's own, seen or wanted"; 10: "stale"
-unfoldable pub takes : Sheet → Try → Record → Said Reply
-takes s a x =
+unfoldable pub replyOf : Sheet → Try → Record → Said Reply
+replyOf s a x =
     let q = rulesOf s in
     let good = legal q (a .stream) in
     check (validAlone s) 12
@@ -97,7 +93,7 @@ stored a rs (refuses number at) = rs
 
 unfoldable pub storeOf : Sheet → Try → List Record → Left Reply
 storeOf s a rs =
-    let said = takes s a (own rs (a .stream)) in
+    let said = replyOf s a (own rs (a .stream)) in
     leaving (stored a rs said) said
 
 -- ---- the count of a stream, C11, with the checks of a read

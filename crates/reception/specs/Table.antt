@@ -1,17 +1,32 @@
--- The event table (document 01, "Stream record"), a definition for each row, in its order and words. Assumes nothing.
+-- The event table (document 01, "Stream record"), a definition for each row, in its order and words. Its sources: document 002, 6.3.6.3.6 and
+-- 6.3.6.4.3 (request), 6.3.6.4.4 (end), 6.3.6.3.9 and 6.3.6.4.12 (T11), 6.3.4.4.13 (cause 8); document 004 (causes 0 and 1). House: the
+-- repeated request that is not counted twice. Assumes nothing.
 use Prim.Native.Nat.{ℕ}
-use mathlib.Core.Bool.{Bool, true, false, _||_}
-use mathlib.Core.List.{List, [], _∷_}
+use mathlib.Core.Bool.{Bool, true, _||_}
+use mathlib.Core.List.{[], _∷_}
 use mathlib.Core.Option.{Option, none}
 use lib.Dec.{eqb, leb}
 use Rattle.octets.specs.Choice.{pick}
-use Rattle.reception.specs.declared.Phase.the-variants.{Free, Idle, Watched, Ending}
+use Rattle.reception.specs.declared.Phase.the-variants.{Free, Idle, Ending}
 use Rattle.reception.specs.declared.Record.{Record}
+use Rattle.reception.specs.declared.Event.{Event}
 use Rattle.reception.specs.declared.What.{What}
 use Rattle.reception.specs.declared.What.the-variants.{Request, End, Open, T11 as T11Expired, EndResponse, Release}
 use Rattle.reception.specs.declared.stream.Rules.{Rules}
 use Rattle.reception.specs.Record.{onSheet, watches, setBit, clearBit, free, idle, watched, ending, count, is}
-use Rattle.reception.specs.Answer.{Done, granted, rejected, ended, opened, endRequested, freed, released, discarded, Sent, Timer, T3, T5, T6, T11, Timers, Reply, grant, rejection, endResponse, endRequest, ack, timers, untouched}
+use Rattle.reception.specs.Answer.{Done, granted, rejected, ended, opened, endRequested, freed, released, discarded, Sent, T3, T5, T6, T11, Timers, Reply, grant, rejection, endResponse, endRequest, ack, timers, untouched}
+
+-- ---- what a row says
+
+-- the causes, by the sources' names
+abbrev pub insufficientDownlinkBandwidth : ℕ
+insufficientDownlinkBandwidth = 0
+
+abbrev pub noPermissionToReceive : ℕ
+noPermissionToReceive = 1
+
+abbrev pub noReceivingParticipant : ℕ
+noReceivingParticipant = 8
 
 -- what becomes of a stream's record, and the answer
 pub record Ruling : Type 0 where
@@ -28,27 +43,29 @@ discard x = ruling x discarded none untouched
 abbrev pub reject : Record → ℕ → Ruling
 reject x cause = ruling x rejected (rejection cause) untouched
 
+-- ---- the rows
+
 -- "request by r": "first that holds: r is s, reject cause 1; Free or Ending, reject cause 1; bit set, grant, no change; limit reached,
 -- reject cause 0; else set the bit, Watched, grant, stop T5, stop T11 if it was Idle, start T6"
 unfoldable pub onRequest : Rules → ℕ → Record → ℕ → Ruling
 onRequest q s x r =
     let b = x .receivers in
-    pick (eqb r s) (reject x 1)
-    (pick (is Free x || is Ending x) (reject x 1)
+    pick (eqb r s) (reject x noPermissionToReceive)
+    (pick (is Free x || is Ending x) (reject x noPermissionToReceive)
     (pick (watches b r) (ruling x granted grant untouched)
-    (pick (leb (q .limit) (count x)) (reject x 0)
+    (pick (leb (q .limit) (count x)) (reject x insufficientDownlinkBandwidth)
     (ruling (watched (setBit b r)) granted grant (timers (T5 ∷ pick (is Idle x) (T11 ∷ []) []) (T6 ∷ []))))))
 
 -- what a cleared bit leaves: "if then none is left, Idle and start T11"
-unfoldable pub left : ℕ → Ruling
-left b = pick (eqb b 0) (ruling idle ended endResponse (timers [] (T11 ∷ []))) (ruling (watched b) ended endResponse untouched)
+unfoldable pub afterClearing : ℕ → Ruling
+afterClearing b = pick (eqb b 0) (ruling idle ended endResponse (timers [] (T11 ∷ []))) (ruling (watched b) ended endResponse untouched)
 
 -- "end by r": "always an end response; if the bit is set, clear it, and if then none is left, Idle and start T11; if it is not set, nothing
 -- more"
 unfoldable pub onEnd : Record → ℕ → Ruling
 onEnd x r =
     let b = x .receivers in
-    pick (watches b r) (left (clearBit b r)) (ruling x ended endResponse untouched)
+    pick (watches b r) (afterClearing (clearBit b r)) (ruling x ended endResponse untouched)
 
 -- "open": "Free: Idle, start T11; else discarded"
 unfoldable pub onOpen : Record → Ruling
@@ -56,9 +73,9 @@ onOpen x = pick (is Free x) (ruling idle opened none (timers [] (T11 ∷ []))) (
 
 -- "T11 expired": "Idle: Ending, Transmission end request with cause 8, start T3; else discarded"
 unfoldable pub onT11 : Record → Ruling
-onT11 x = pick (is Idle x) (ruling ending endRequested (endRequest 8) (timers [] (T3 ∷ []))) (discard x)
+onT11 x = pick (is Idle x) (ruling ending endRequested (endRequest noReceivingParticipant) (timers [] (T3 ∷ []))) (discard x)
 
--- "end response from s": "Ending: Free, stop T3, and an Ack if asked; else discarded, no Ack"
+-- "end response from s": "Ending: Free, stop T3, and an Ack (Source 2, Message Type 1) if asked; else discarded, no Ack"
 unfoldable pub onEndResponse : Record → Bool → Ruling
 onEndResponse x asked = pick (is Ending x) (ruling free freed (pick asked ack none) (timers (T3 ∷ []) [])) (discard x)
 
@@ -68,7 +85,9 @@ onRelease x =
     pick (is Free x) (discard x)
     (ruling free released none (timers (pick (is Idle x) (T11 ∷ []) (pick (is Ending x) (T3 ∷ []) [])) []))
 
--- the table, on stream s
+-- ---- the table
+
+-- an event on stream s
 unfoldable pub ruleFor : Rules → ℕ → Record → What → Ruling
 ruleFor q s x (Request r) = onRequest q s x r
 ruleFor q s x (End r) = onEnd x r
@@ -85,3 +104,8 @@ senderOn q Open = true
 senderOn q T11Expired = true
 senderOn q (EndResponse asked) = true
 senderOn q Release = true
+
+-- an event with its answer
+pub record Answered : Type 0 where
+  pub event : Event
+  pub reply : Reply

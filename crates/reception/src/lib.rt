@@ -11,7 +11,7 @@ ghost use mathlib.Core.Path.{_≡_};
 ghost use Prim.Native.Nat.{_<_, _≤_};
 ghost use Rattle.reception.specs.Steps.{leaving, refusalSaid, attemptSaid, storedSaid};
 ghost use Rattle.reception.specs.Inner.{settledOf};
-ghost use Rattle.reception.specs.Promises.{read≡, work-out≡, store≡, count≡};
+ghost use Rattle.reception.specs.Promises.{all-free≡, read≡, work-out≡, store≡, count≡};
 
 // The most seats that a sheet has, and as many streams.
 const SEATS: usize = 8;
@@ -108,12 +108,18 @@ fn refusal(number: u32) -> Refusal
     Refusal { number, at: 0 }
 }
 
+// The records to start with: all streams free.
+pub fn all_free() -> Streams
+    ensures { λ r. ⌜ all-free≡ r ⌝ }
+{
+    [stream::free(); SEATS]
+}
+
 // The record of a stream, or 12 line 0 or 9.
 pub fn read(sheet: Sheet, records: Streams, stream: u8) -> Seen
     ensures { λ r. ⌜ read≡ sheet records stream r ⌝ }
 {
-    let numbers = sheet::numbers::numbers_of(sheet);
-    if !sheet::numbers::are_valid(&numbers) {
+    if !sheet::valid(sheet) {
         return Seen::Refused(refusal(12));
     }
     let rules = stream::rules_of(sheet);
@@ -131,8 +137,7 @@ pub fn read(sheet: Sheet, records: Streams, stream: u8) -> Seen
 pub fn work_out(sheet: Sheet, seen: Record, event: Event) -> Worked
     ensures { λ r. ⌜ work-out≡ sheet seen event r ⌝ }
 {
-    let numbers = sheet::numbers::numbers_of(sheet);
-    if !sheet::numbers::are_valid(&numbers) {
+    if !sheet::valid(sheet) {
         return Worked::Refused(refusal(12));
     }
     let rules = stream::rules_of(sheet);

@@ -123,11 +123,10 @@ pub fn is_legal(rules: Rules, stream: u8, own: Record) -> bool
     ensures { λ r. ⌜ r ≡ legal rules stream own ⌝ }
 {
     let phase = own.phase;
-    let byte = own.receivers;
     match phase {
+        Phase::Free => is_same(own, free()),
+        Phase::Idle => is_same(own, idle()),
         Phase::Watched => is_good(rules, stream, own),
-        Phase::Free => byte == 0,
-        Phase::Idle => byte == 0,
-        Phase::Ending => byte == 0,
+        Phase::Ending => is_same(own, ending()),
     }
 }

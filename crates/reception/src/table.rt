@@ -7,17 +7,18 @@ use super::receivers;
 use super::stream;
 use super::stream::Rules;
 ghost use mathlib.Core.Path.{_≡_};
-ghost use Prim.Native.Nat.{_<_};
+ghost use Prim.Native.Nat.{_<_, _≤_};
+ghost use lib.Dec.{T};
 ghost use Rattle.reception.specs.Answer.{answerSaid};
 ghost use Rattle.reception.specs.Table.{onRequest, onEnd, onOpen, onT11, onEndResponse, onRelease, ruleFor, senderOn};
-ghost use Rattle.reception.specs.Inner.{changeSaid, joined, freedReply, senderFits};
+ghost use Rattle.reception.specs.Inner.{changeSaid, joined, freedReply};
 
-// The causes that a request is rejected for, and the one that an idle stream is ended for.
-const LIMIT_REACHED: u16 = 0;
+// The causes, by the sources' names (documents 004 and 002).
+const INSUFFICIENT_DOWNLINK_BANDWIDTH: u16 = 0;
 
-const NOT_TO_BE_WATCHED: u16 = 1;
+const NO_PERMISSION_TO_RECEIVE: u16 = 1;
 
-const NOBODY_WATCHES: u16 = 8;
+const NO_RECEIVING_PARTICIPANT: u16 = 8;
 
 // What becomes of a stream's record, and the answer.
 pub struct Change {
@@ -25,7 +26,7 @@ pub struct Change {
     pub answer: Answer,
 }
 
-fn changed(becomes: Record, answer: Answer) -> Change
+fn answered(becomes: Record, answer: Answer) -> Change
     ensures { λ r. ⌜ (r .becomes ≡ becomes) × (r .answer ≡ answer) ⌝ }
 {
     Change { becomes, answer }
@@ -38,66 +39,73 @@ fn join(rules: Rules, own: Record, by: u8, granted: Answer) -> Change
 {
     let byte = own.receivers;
     if receivers::has(byte, by) {
-        return changed(own, Answer::GrantedAgain);
+        return answered(own, Answer::GrantedAgain);
     }
     if rules.limit <= stream::count_of(own) {
-        return changed(own, Answer::Rejected(LIMIT_REACHED));
+        return answered(own, Answer::Rejected(INSUFFICIENT_DOWNLINK_BANDWIDTH));
     }
-    changed(stream::watched(receivers::with(byte, by)), granted)
+    answered(stream::watched(receivers::with(byte, by)), granted)
 }
 
+// "request by r".
 fn request(rules: Rules, stream: u8, own: Record, by: u8) -> Change
     requires { ⌜ by < 8 ⌝ }
     ensures { λ r. ⌜ changeSaid r ≡ onRequest rules stream own by ⌝ }
 {
     if by == stream {
-        return changed(own, Answer::Rejected(NOT_TO_BE_WATCHED));
+        return answered(own, Answer::Rejected(NO_PERMISSION_TO_RECEIVE));
     }
     let phase = own.phase;
     match phase {
-        Phase::Free => changed(own, Answer::Rejected(NOT_TO_BE_WATCHED)),
+        Phase::Free => answered(own, Answer::Rejected(NO_PERMISSION_TO_RECEIVE)),
         Phase::Idle => join(rules, own, by, Answer::GrantedFirst),
         Phase::Watched => join(rules, own, by, Answer::Granted),
-        Phase::Ending => changed(own, Answer::Rejected(NOT_TO_BE_WATCHED)),
+        Phase::Ending => answered(own, Answer::Rejected(NO_PERMISSION_TO_RECEIVE)),
     }
 }
 
+// "end by r".
 fn end(own: Record, by: u8) -> Change
     requires { ⌜ by < 8 ⌝ }
     ensures { λ r. ⌜ changeSaid r ≡ onEnd own by ⌝ }
 {
     let byte = own.receivers;
     if !receivers::has(byte, by) {
-        return changed(own, Answer::Ended);
+        return answered(own, Answer::Ended);
     }
     let left = receivers::without(byte, by);
     if left == 0 {
-        return changed(stream::idle(), Answer::EndedLast);
+        return answered(stream::idle(), Answer::EndedLast);
     }
-    changed(stream::watched(left), Answer::Ended)
+    answered(stream::watched(left), Answer::Ended)
 }
 
+// "open".
 fn open(own: Record) -> Change
     ensures { λ r. ⌜ changeSaid r ≡ onOpen own ⌝ }
 {
     let phase = own.phase;
     match phase {
-        Phase::Free => changed(stream::idle(), Answer::Opened),
-        Phase::Idle => changed(own, Answer::Discarded),
-        Phase::Watched => changed(own, Answer::Discarded),
-        Phase::Ending => changed(own, Answer::Discarded),
+        Phase::Free => answered(stream::idle(), Answer::Opened),
+        Phase::Idle => answered(own, Answer::Discarded),
+        Phase::Watched => answered(own, Answer::Discarded),
+        Phase::Ending => answered(own, Answer::Discarded),
     }
 }
 
+// "T11 expired".
 fn t11(own: Record) -> Change
     ensures { λ r. ⌜ changeSaid r ≡ onT11 own ⌝ }
 {
     let phase = own.phase;
     match phase {
-        Phase::Free => changed(own, Answer::Discarded),
-        Phase::Idle => changed(stream::ending(), Answer::EndRequested(NOBODY_WATCHES)),
-        Phase::Watched => changed(own, Answer::Discarded), // T11 ran out late
-        Phase::Ending => changed(own, Answer::Discarded),
+        Phase::Free => answered(own, Answer::Discarded),
+        Phase::Idle => answered(
+            stream::ending(),
+            Answer::EndRequested(NO_RECEIVING_PARTICIPANT),
+        ),
+        Phase::Watched => answered(own, Answer::Discarded), // T11 ran out late
+        Phase::Ending => answered(own, Answer::Discarded),
     }
 }
 
@@ -111,27 +119,29 @@ fn freed(ack: bool) -> Answer
     Answer::Freed
 }
 
+// "end response from s".
 fn end_response(own: Record, ack: bool) -> Change
     ensures { λ r. ⌜ changeSaid r ≡ onEndResponse own ack ⌝ }
 {
     let phase = own.phase;
     match phase {
-        Phase::Free => changed(own, Answer::Discarded),
-        Phase::Idle => changed(own, Answer::Discarded),
-        Phase::Watched => changed(own, Answer::Discarded),
-        Phase::Ending => changed(stream::free(), freed(ack)),
+        Phase::Free => answered(own, Answer::Discarded),
+        Phase::Idle => answered(own, Answer::Discarded),
+        Phase::Watched => answered(own, Answer::Discarded),
+        Phase::Ending => answered(stream::free(), freed(ack)),
     }
 }
 
+// "release".
 fn release(own: Record) -> Change
     ensures { λ r. ⌜ changeSaid r ≡ onRelease own ⌝ }
 {
     let phase = own.phase;
     match phase {
-        Phase::Free => changed(own, Answer::Discarded),
-        Phase::Idle => changed(stream::free(), Answer::ReleasedIdle),
-        Phase::Watched => changed(stream::free(), Answer::ReleasedWatched),
-        Phase::Ending => changed(stream::free(), Answer::ReleasedEnding),
+        Phase::Free => answered(own, Answer::Discarded),
+        Phase::Idle => answered(stream::free(), Answer::ReleasedIdle),
+        Phase::Watched => answered(stream::free(), Answer::ReleasedWatched),
+        Phase::Ending => answered(stream::free(), Answer::ReleasedEnding),
     }
 }
 
@@ -151,7 +161,7 @@ pub fn is_sender_on(rules: Rules, what: What) -> bool
 
 // What an event makes of a stream's record.
 pub fn change_of(rules: Rules, stream: u8, own: Record, what: What) -> Change
-    requires { ⌜ senderFits what ⌝ }
+    requires { ⌜ T (senderOn rules what) × (rules .seats ≤ 8) ⌝ }
     ensures { λ r. ⌜ changeSaid r ≡ ruleFor rules stream own what ⌝ }
 {
     match what {

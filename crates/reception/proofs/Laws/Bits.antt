@@ -18,7 +18,7 @@ use Rattle.octets.proofs.Choice.{le-or-lt, T-true, T-false, T-or-cases, pick-ca
 use Rattle.octets.proofs.Keep.{keep-append}
 use Rattle.reception.specs.Record.{watches, setBit, clearBit}
 use Rattle.reception.specs.History.{places}
-use Rattle.reception.specs.Claims.{OnSheetExactly}
+use Rattle.reception.specs.Claims.{SetsOne, ClearsOne, OnSheetExactly}
 
 -- no bit of 0 is set
 pub watches-none : (r : ℕ) → watches 0 r ≡ false
@@ -118,7 +118,7 @@ clear-other b r = rw (watches-suc, pow-suc) (by (watches (b / 2) r) (bit-le (b /
     by false h = omega arith
 
 -- after one bit was set, bit p
-pub watches-set : (b r p : ℕ) → watches (setBit b r) p ≡ (eqb p r || watches b p)
+pub watches-set : SetsOne
 watches-set b r p = watches-put setBit 1 (omega arith) set-lowest set-other b r p ∙ by (eqb p r)
   where
     by : (c : Bool) → pick c true (watches b p) ≡ (c || watches b p)
@@ -126,7 +126,7 @@ watches-set b r p = watches-put setBit 1 (omega arith) set-lowest set-other b r 
     by false = refl
 
 -- after one bit was cleared, bit p
-pub watches-clear : (b r p : ℕ) → watches (clearBit b r) p ≡ (watches b p && not (eqb p r))
+pub watches-clear : ClearsOne
 watches-clear b r p = watches-put clearBit 0 (omega arith) clear-lowest clear-other b r p ∙ by (eqb p r)
   where
     by : (c : Bool) → pick c false (watches b p) ≡ (watches b p && not c)

@@ -8,14 +8,11 @@ use Rattle.octets.proofs.Choice.{T-true}
 use Rattle.sheet.specs.declared.Sheet.{Sheet}
 use Rattle.sheet.specs.Value.{validAlone}
 use Rattle.reception.specs.declared.Record.{Record}
-use Rattle.reception.specs.declared.What.{What}
-use Rattle.reception.specs.declared.What.the-variants.{Request, End, Open, T11, EndResponse, Release}
 use Rattle.reception.specs.declared.Seen.{Seen}
 use Rattle.reception.specs.declared.stream.Rules.{Rules}
-use Rattle.reception.specs.Record.{rulesOf, onSheet, legal}
-use Rattle.reception.specs.Table.{senderOn}
-use Rattle.reception.specs.Steps.{Said, gives, refuses, Left, leaving, check, own, Try, seenOf, readOf, takes, stored, storeOf, seenSaid}
-use Rattle.reception.specs.Inner.{senderFits, settled, settledOf}
+use Rattle.reception.specs.Record.{rulesOf, onSheet, legal, own}
+use Rattle.reception.specs.Steps.{Said, gives, refuses, Left, leaving, check, Try, seenOf, readOf, replyOf, stored, storeOf, seenSaid}
+use Rattle.reception.specs.Inner.{settled, settledOf}
 use Rattle.reception.specs.Promises.{read≡}
 use Rattle.reception.proofs.Laws.Steps.{few, on-sheet-below, seen-gives}
 
@@ -23,15 +20,6 @@ use Rattle.reception.proofs.Laws.Steps.{few, on-sheet-below, seen-gives
 pub seats-fit : (s : Sheet) (q : Rules) (stream : ℕ)
     → q ≡ rulesOf s → T (validAlone s) → T (onSheet (rulesOf s) stream) → (stream < 8) × (q .seats ≤ 8)
 seats-fit s q stream e v t = rw e (on-sheet-below s stream v t, few s v)
-
--- a sender on a valid sheet has a bit in the byte
-pub sender-fits : (s : Sheet) (w : What) → T (validAlone s) → T (senderOn (rulesOf s) w) → senderFits w
-sender-fits s (Request by) v t = on-sheet-below s by v t
-sender-fits s (End by) v t = on-sheet-below s by v t
-sender-fits s Open v t = tt
-sender-fits s T11 v t = tt
-sender-fits s (EndResponse asked) v t = tt
-sender-fits s Release v t = tt
 
 -- what a read promises of its answer alone
 pub read-said : (s : Sheet) (rs : List Record) (stream : ℕ) (r : Seen) → read≡ s rs stream r → seenOf s stream (own rs stream) ≡ seenSaid r
@@ -43,7 +31,7 @@ read-said s rs stream r e = ap (λ (l : Left Record). l .said) (sym e)
 -- one that gave the own record: the rest is settled
 pub store-settled : (s : Sheet) (a : Try) (rs : List Record) (x : Record)
     → seenOf s (a .stream) (own rs (a .stream)) ≡ gives x → storeOf s a rs ≡ settledOf (rulesOf s) a x rs
-unfolding storeOf takes settledOf settled
+unfolding storeOf replyOf settledOf settled
 store-settled s a rs x e =
     let q = rulesOf s in
     let right = seen-gives s (a .stream) (own rs (a .stream)) x e in
@@ -66,7 +54,7 @@ more-refuse true true true more x next number at e = cc
 -- one that was refused: so is the store, and the records are as they were
 pub store-refused : (s : Sheet) (a : Try) (rs : List Record) (number at : ℕ)
     → seenOf s (a .stream) (own rs (a .stream)) ≡ refuses number at → storeOf s a rs ≡ leaving rs (refuses number at)
-unfolding storeOf takes stored seenOf
+unfolding storeOf replyOf stored seenOf
 store-refused s a rs number at e =
     let q = rulesOf s in
     let good = legal q (a .stream) in

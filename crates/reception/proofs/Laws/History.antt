@@ -17,19 +17,21 @@ use Rattle.octets.proofs.Choice.{T-true, decide, some-of-append}
 use Rattle.octets.proofs.Keep.{keep-snoc-true, keep-snoc-false}
 use Rattle.sheet.specs.declared.Sheet.{Sheet}
 use Rattle.sheet.specs.Table.{mostSeats}
+use Rattle.sheet.specs.Value.{validAlone}
 use Rattle.reception.specs.declared.Record.{Record}
 use Rattle.reception.specs.declared.Event.{Event}
-use Rattle.reception.specs.Record.{rulesOf, watches, free, count}
+use Rattle.reception.specs.Record.{rulesOf, onSheet, watches, free, count, legal, own, allFree}
 use Rattle.reception.specs.Answer.{Reply}
-use Rattle.reception.specs.Steps.{Said, gives, refuses, own, Try, readOf, workOf, attemptOf, takes, stored, storeOf}
-use Rattle.reception.specs.Schedule.{Step, reads, worksOut, stores, WorkedOut, State, after, Taken, taking, takenAt, start, run, taken}
-use Rattle.reception.specs.History.{ofStream, grantsAt, endsAt, places, lasts, shown, shownCount}
-use Rattle.reception.specs.Claims.{allFree, CountFromHistory}
+use Rattle.reception.specs.Steps.{Said, gives, refuses, Try, seenOf, readOf, workOf, attemptOf, replyOf, stored, storeOf, counted, countOf}
+use Rattle.reception.specs.Table.{Answered}
+use Rattle.reception.specs.Schedule.{Step, reads, worksOut, stores, WorkedOut, State, after, ifTook, takenAt, start, run, taken}
+use Rattle.reception.specs.History.{ofStream, grantsAt, undoesAt, places, lasts, shown, shownCount}
+use Rattle.reception.specs.Claims.{CountFromHistory, CountTold}
 use Rattle.reception.proofs.Laws.Bits.{watches-none, ones-keep}
 use Rattle.reception.proofs.Laws.Records.{legal-below}
-use Rattle.reception.proofs.Laws.Steps.{few, on-sheet-below, tried, WorkRight, attempt-gives, takes-gives}
+use Rattle.reception.proofs.Laws.Steps.{few, on-sheet-below, tried, WorkRight, attempt-gives, reply-gives}
 use Rattle.reception.proofs.Laws.Rules.{rule-legal, rule-bits}
-use Rattle.reception.proofs.Laws.Stores.{own-set, own-set-other}
+use Rattle.reception.proofs.Laws.Stores.{own-set, own-set-other, starts-legal, legal-own, stays-legal}
 use Rattle.reception.proofs.Laws.Serial.{serial-order}
 
 -- ---- one event more
@@ -49,33 +51,33 @@ and-not-or true false c = refl
 and-not-or false b c = refl
 
 -- with one event more, an earlier grant still lasts if it lasted before and that event does not end it
-lasts-snoc : (r : ℕ) (ts : List Taken) (t : Taken) (i : ℕ) → i < length ts
-    → lasts r (drop i (ts ++ (t ∷ []))) ≡ (lasts r (drop i ts) && not (endsAt r t))
+lasts-snoc : (r : ℕ) (ts : List Answered) (t : Answered) (i : ℕ) → i < length ts
+    → lasts r (drop i (ts ++ (t ∷ []))) ≡ (lasts r (drop i ts) && not (undoesAt r t))
 unfolding lasts
 lasts-snoc r [] t i h = absurd (not-suc-le-zero h)
 lasts-snoc r (x ∷ ts) t zero h =
-    rw (some-of-append (endsAt r) ts (t ∷ []), or-false) (and-not-or (grantsAt r x) (some-of (endsAt r) ts) (endsAt r t))
+    rw (some-of-append (undoesAt r) ts (t ∷ []), or-false) (and-not-or (grantsAt r x) (some-of (undoesAt r) ts) (undoesAt r t))
 lasts-snoc r (x ∷ ts) t (suc i) h = lasts-snoc r ts t i (le-of-suc-le-suc h)
 
 -- one event more: it grants, or the history showed the seat before and it does not end
-pub shown-snoc : (r : ℕ) (ts : List Taken) (t : Taken) → shown r (ts ++ (t ∷ [])) ≡ (grantsAt r t || (shown r ts && not (endsAt r t)))
+pub shown-snoc : (r : ℕ) (ts : List Answered) (t : Answered) → shown r (ts ++ (t ∷ [])) ≡ (grantsAt r t || (shown r ts && not (undoesAt r t)))
 unfolding shown places lasts
 shown-snoc r ts t =
-    let lastsAt : List Taken → ℕ → Bool = λ (us : List Taken) (i : ℕ). lasts r (drop i us) in
+    let lastsAt : List Answered → ℕ → Bool = λ (us : List Answered) (i : ℕ). lasts r (drop i us) in
     let more = ts ++ (t ∷ []) in
     rw (length-append, add-one, some-of-append (lastsAt more) (places (length ts)), drop-append-seam, and-true, or-false)
-    (rw (some-place (lastsAt more) (lastsAt ts) (not (endsAt r t)) (length ts) (lasts-snoc r ts t))
-    (or-comm (shown r ts && not (endsAt r t)) (grantsAt r t)))
+    (rw (some-place (lastsAt more) (lastsAt ts) (not (undoesAt r t)) (length ts) (lasts-snoc r ts t))
+    (or-comm (shown r ts && not (undoesAt r t)) (grantsAt r t)))
 
 -- ---- a record that the taken events of its stream tell
 
 -- a byte of eight bits, each set exactly if the history shows its seat
-record Told (x : Record) (ts : List Taken) : Type 0 where
+record Told (x : Record) (ts : List Answered) : Type 0 where
   below : x .receivers < 2 ^ mostSeats
   bits : (r : ℕ) → watches (x .receivers) r ≡ shown r ts
 
 -- its count is the history's
-told-count : {x : Record} {ts : List Taken} → Told x ts → count x ≡ shownCount ts
+told-count : {x : Record} {ts : List Answered} → Told x ts → count x ≡ shownCount ts
 unfolding count shownCount
 told-count {x} h =
     ones-keep mostSeats (x .receivers) (h .below) ∙ ap (λ (p : ℕ → Bool). length (keep p (places mostSeats))) (fun-ext (h .bits))
@@ -87,7 +89,7 @@ told-free = record { below = omega arith; bits = watches-none }
 
 -- ---- eight records that the taken events tell
 
-record Tells (rs : List Record) (ts : List Taken) : Type 0 where
+record Tells (rs : List Record) (ts : List Answered) : Type 0 where
   eight : length rs ≡ mostSeats
   each : (k : ℕ) → Told (own rs k) (ofStream k ts)
 
@@ -105,7 +107,7 @@ tells-free = record { eight = length-replicate mostSeats free; each = λ k. rw o
 -- an event worked out on the record x
 module _ (s : Sheet) (x : Record) (e : Event) (a : Try) (w : WorkRight s x e a) where
   -- the events of the stream tell the record wanted, if those before told x
-  wanted-told : (ts : List Taken) → Told x ts → Told (tried s x e .wanted) (ts ++ (record { event = e; reply = tried s x e .reply } ∷ []))
+  wanted-told : (ts : List Answered) → Told x ts → Told (tried s x e .wanted) (ts ++ (record { event = e; reply = tried s x e .reply } ∷ []))
   unfolding mostSeats
   wanted-told ts h =
       let q = rulesOf s in
@@ -116,7 +118,7 @@ module _ (s : Sheet) (x : Record) (e : Event) (a : Try) (w : WorkRight s x e a) 
       }
 
   -- so all events tell the eight with the record wanted in its place, if x stood there
-  wanted-tells : (rs : List Record) (ts : List Taken) → own rs (e .stream) ≡ x → Tells rs ts
+  wanted-tells : (rs : List Record) (ts : List Answered) → own rs (e .stream) ≡ x → Tells rs ts
       → Tells (set rs (e .stream) (tried s x e .wanted)) (ts ++ (record { event = e; reply = tried s x e .reply } ∷ []))
   unfolding ofStream mostSeats
   wanted-tells rs ts seen h = record { eight = length-set rs i y ∙ h .eight; each = each }
@@ -127,10 +129,10 @@ module _ (s : Sheet) (x : Record) (e : Event) (a : Try) (w : WorkRight s x e a) 
       y : Record
       y = tried s x e .wanted
 
-      t : Taken
+      t : Answered
       t = record { event = e; reply = tried s x e .reply }
 
-      of : ℕ → Taken → Bool
+      of : ℕ → Answered → Bool
       of k u = eqb (u .event .stream) k
 
       here : Told (own (set rs i y) i) (ofStream i (ts ++ (t ∷ [])))
@@ -148,26 +150,26 @@ module _ (s : Sheet) (x : Record) (e : Event) (a : Try) (w : WorkRight s x e a) 
 -- ---- steps keep that
 
 -- a store, whatever it says
-store-tells : (s : Sheet) (a : Try) (x : Record) (e : Event) (rs : List Record) (ts : List Taken) (said : Said Reply)
-    → attemptOf s x e ≡ gives a → takes s a (own rs (a .stream)) ≡ said → Tells rs ts → Tells (stored a rs said) (ts ++ taking e said)
-unfolding stored taking
+store-tells : (s : Sheet) (a : Try) (x : Record) (e : Event) (rs : List Record) (ts : List Answered) (said : Said Reply)
+    → attemptOf s x e ≡ gives a → replyOf s a (own rs (a .stream)) ≡ said → Tells rs ts → Tells (stored a rs said) (ts ++ ifTook e said)
+unfolding stored ifTook
 store-tells s a x e rs ts (gives reply) worked took h =
     let w = attempt-gives s x e a worked in
-    let t = takes-gives s a (own rs (a .stream)) reply took in
+    let t = reply-gives s a (own rs (a .stream)) reply took in
     rw (← t .same, ← w .same) (wanted-tells s x e a w rs ts (rw (← w .same) at (t .seen)) h)
 store-tells s a x e rs ts (refuses number at) worked took h = rw append-nil h
 
 -- any step
-after-tells : (s : Sheet) (x : Step) (m : State) (ts : List Taken) → WorkedOut s x → Tells (m .records) ts
+after-tells : (s : Sheet) (x : Step) (m : State) (ts : List Answered) → WorkedOut s x → Tells (m .records) ts
     → Tells (after s x m .records) (ts ++ takenAt s x m)
 unfolding after takenAt readOf workOf storeOf
 after-tells s (reads q stream) m ts w h = rw append-nil h
 after-tells s (worksOut q x e) m ts w h = rw append-nil h
 after-tells s (stores q a e) m ts w h =
-    store-tells s a (w .0) e (m .records) ts (takes s a (own (m .records) (a .stream))) (w .1) refl h
+    store-tells s a (w .0) e (m .records) ts (replyOf s a (own (m .records) (a .stream))) (w .1) refl h
 
 -- a schedule
-run-tells : (s : Sheet) (steps : List Step) (m : State) (ts : List Taken) → All (WorkedOut s) steps → Tells (m .records) ts
+run-tells : (s : Sheet) (steps : List Step) (m : State) (ts : List Answered) → All (WorkedOut s) steps → Tells (m .records) ts
     → Tells (run s steps m .records) (ts ++ taken s steps m)
 unfolding run taken
 run-tells s [] m ts w h = rw append-nil h
@@ -178,4 +180,13 @@ run-tells s (x ∷ xs) m ts w h =
 pub count-from-history : CountFromHistory
 count-from-history s steps stream h =
     told-count (run-tells s steps (start allFree) [] h tells-free .each stream)
-    ∙ ap (λ (ts : List Taken). shownCount (ofStream stream ts)) (serial-order s allFree steps h .1)
+    ∙ ap (λ (ts : List Answered). shownCount (ofStream stream ts)) (serial-order s allFree steps h .1)
+
+-- and that is the count that is told
+pub count-told : CountTold
+unfolding countOf counted seenOf
+count-told s steps stream h v on =
+    let q = rulesOf s in
+    let rs = run s steps (start allFree) .records in
+    let l = legal-own s rs stream v on (stays-legal s allFree steps (starts-legal s)) in
+    rw (T-true (validAlone s) v, T-true (onSheet q stream) on, T-true (legal q stream (own rs stream)) l, count-from-history s steps stream h)

@@ -11,7 +11,8 @@ use Rattle.reception.specs.declared.Phase.{Phase}
 use Rattle.reception.specs.declared.Phase.the-variants.{Free, Idle, Watched, Ending}
 use Rattle.reception.specs.declared.Record.{Record}
 use Rattle.reception.specs.declared.stream.Rules.{Rules}
-use Rattle.reception.specs.Record.{phaseNumber, is, sameRecord, goodReceivers, legalIn, legal}
+use Rattle.reception.specs.Record.{free, idle, ending, phaseNumber, is, sameRecord, goodReceivers, legalIn, legal}
+use Rattle.reception.specs.Claims.{SameExactly}
 
 -- the phase of a number
 abbrev phaseBack : ℕ → Phase
@@ -45,19 +46,27 @@ equal-same x y e = rw e (T-and (is (y .phase) y) _ (eqb-refl (phaseNumber (y .ph
 pub other-same : (x y : Record) → (x ≡ y → ⊥) → sameRecord x y ≡ false
 other-same x y n = T-false (sameRecord x y) (λ t. n (same-equal x y t))
 
+-- the same record has the same byte
+pub same-receivers : (x y : Record) → T (sameRecord x y) → x .receivers ≡ y .receivers
+same-receivers x y t = rw (same-equal x y t)
+
 -- a byte 0 is below every power of two
-none-below : (n b : ℕ) → T (eqb b 0) → b < 2 ^ n
-none-below n b t = omega (arith, eqb→eq b 0 t, pow-pos n)
+none-below : (n b : ℕ) → b ≡ 0 → b < 2 ^ n
+none-below n b e = omega (arith, pow-pos n)
 
 -- what is legal in a phase has no bit of a seat not on the sheet
 legal-in-below : (p : Phase) (q : Rules) (s : ℕ) (x : Record) → T (legalIn p q s x) → x .receivers < 2 ^ q .seats
 unfolding legalIn goodReceivers
-legal-in-below Free q s x t = none-below (q .seats) (x .receivers) t
-legal-in-below Idle q s x t = none-below (q .seats) (x .receivers) t
+legal-in-below Free q s x t = none-below (q .seats) (x .receivers) (same-receivers x free t)
+legal-in-below Idle q s x t = none-below (q .seats) (x .receivers) (same-receivers x idle t)
 legal-in-below Watched q s x t = ltb→lt (x .receivers) (2 ^ q .seats) (search (T-and-left, T-and-right))
-legal-in-below Ending q s x t = none-below (q .seats) (x .receivers) t
+legal-in-below Ending q s x t = none-below (q .seats) (x .receivers) (same-receivers x ending t)
 
 -- a legal record has no bit of a seat not on the sheet, whatever its phase
 pub legal-below : (q : Rules) (s : ℕ) (x : Record) → T (legal q s x) → x .receivers < 2 ^ q .seats
 unfolding legal
 legal-below q s x t = legal-in-below (x .phase) q s x t
+
+-- two records are the same exactly if they are equal
+pub same-exactly : SameExactly
+same-exactly x y = (same-equal x y, equal-same x y)

@@ -1,14 +1,14 @@
 -- Laws of the event table: what each row does to a legal record, bit by bit. Assumes nothing.
-use mathlib.Core.Path.{_≡_, refl}
-use mathlib.Core.Logic.{_⊎_, inl, inr, ⊎-elim}
+use mathlib.Core.Path.{_≡_, refl, ap}
+use mathlib.Core.Logic.{_⊎_, inl, inr, ⊎-elim, _↔_}
 use mathlib.Core.Bool.{Bool, true, false, not, _&&_, _||_, and-true, and-false}
-use mathlib.Core.Option.{Option}
+use mathlib.Core.Option.{Option, none, some}
 use Prim.Native.Nat.{ℕ, _^_, _<_, _≤_}
 use native.Mathlib.Omega.{arith}
 use lib.Count.{ones}
 use lib.Dec.{T, eqb, leb, ltb→lt, leb→le, eqb→eq, eqb-refl}
 use borrow.Author.Tests.{lt-ltb, le-leb, leb-false, eqb-false, ne-eqb, not-true}
-use Rattle.octets.proofs.Choice.{T-true, T-and-left, T-and-right, false-T, or-false-both, pick-cases}
+use Rattle.octets.proofs.Choice.{T-true, true-T, T-and-left, T-and-right, false-T, or-false-both, pick-cases}
 use Rattle.octets.proofs.Places.{eqb-comm}
 use Rattle.reception.specs.declared.Phase.{Phase}
 use Rattle.reception.specs.declared.Phase.the-variants.{Free, Idle, Watched, Ending}
@@ -16,13 +16,13 @@ use Rattle.reception.specs.declared.Record.{Record}
 use Rattle.reception.specs.declared.What.{What}
 use Rattle.reception.specs.declared.What.the-variants.{Request, End, Open, T11, EndResponse, Release}
 use Rattle.reception.specs.declared.stream.Rules.{Rules}
-use Rattle.reception.specs.Record.{watches, setBit, clearBit, idle, watched, count, phaseNumber, is, goodReceivers, legalIn, legal, rulesOf}
-use Rattle.reception.specs.Answer.{Done, granted, rejected, ended, discarded, Sent, Timers, grant, endResponse, untouched}
-use Rattle.reception.specs.Table.{Ruling, ruling, reject, onRequest, left, onEnd, onOpen, onT11, onEndResponse, onRelease, ruleFor, senderOn}
-use Rattle.reception.specs.History.{grants, ends}
-use Rattle.reception.specs.Claims.{WorksOutLegal, DiscardKeeps}
+use Rattle.reception.specs.Record.{watches, setBit, clearBit, free, idle, watched, ending, count, phaseNumber, is, sameRecord, goodReceivers, legalIn, legal, rulesOf}
+use Rattle.reception.specs.Answer.{Done, granted, rejected, ended, opened, endRequested, freed, released, discarded, Sent, Timers, grant, rejection, endResponse, endRequest, ack, untouched}
+use Rattle.reception.specs.Table.{insufficientDownlinkBandwidth, noPermissionToReceive, noReceivingParticipant, Ruling, ruling, discard, reject, onRequest, afterClearing, onEnd, onOpen, onT11, onEndResponse, onRelease, ruleFor, senderOn}
+use Rattle.reception.specs.History.{wasGranted, grants, undoes}
+use Rattle.reception.specs.Claims.{GrantedExactly, WorksOutLegal, DiscardKeeps}
 use Rattle.reception.proofs.Laws.Bits.{watches-none, watches-set, watches-clear, set-below, clear-le, ones-set, ones-clear}
-use Rattle.reception.proofs.Laws.Records.{legal-below}
+use Rattle.reception.proofs.Laws.Records.{same-receivers, legal-below}
 use Rattle.reception.proofs.Laws.Steps.{attempt-gives}
 
 -- ---- bits
@@ -50,10 +50,10 @@ module _ (q : Rules) (s : ℕ) (x : Record) where
   -- a legal record has byte 0, or it is Watched and its receivers are good
   legal-cases : (p : Phase) → T (legalIn p q s x) → (x .receivers ≡ 0) ⊎ (T (eqb (phaseNumber p) 2) × T (goodReceivers q s x))
   unfolding legalIn
-  legal-cases Free l = inl (eqb→eq (x .receivers) 0 l)
-  legal-cases Idle l = inl (eqb→eq (x .receivers) 0 l)
+  legal-cases Free l = inl (same-receivers x free l)
+  legal-cases Idle l = inl (same-receivers x idle l)
   legal-cases Watched l = inr (tt, l)
-  legal-cases Ending l = inl (eqb→eq (x .receivers) 0 l)
+  legal-cases Ending l = inl (same-receivers x ending l)
 
   -- good receivers have no own bit, and at most limit bits
   good-few : T (goodReceivers q s x) → (watches (x .receivers) s ≡ false) × (ones (x .receivers) ≤ q .limit)
@@ -87,11 +87,11 @@ module _ (q : Rules) (s : ℕ) (x : Record) where
     not-ending : m .reply .done ≡ granted → is Ending x ≡ false
     stays-legal : T (legal q s x) → T (senderOn q w) → T (legal q s (m .becomes))
     bits : T (legal q s x) → (r : ℕ)
-        → watches (m .becomes .receivers) r ≡ (grants r w (m .reply .done) || (watches (x .receivers) r && not (ends r w (m .reply .done))))
+        → watches (m .becomes .receivers) r ≡ (grants r w (m .reply .done) || (watches (x .receivers) r && not (undoes r w (m .reply .done))))
 
   -- a row that keeps the record
   kept : (w : What) (d : Done) (sends : Option Sent) (ts : Timers) → (d ≡ granted → is Ending x ≡ false)
-      → (T (legal q s x) → (r : ℕ) → watches (x .receivers) r ≡ (grants r w d || (watches (x .receivers) r && not (ends r w d))))
+      → (T (legal q s x) → (r : ℕ) → watches (x .receivers) r ≡ (grants r w d || (watches (x .receivers) r && not (undoes r w d))))
       → Row w (ruling x d sends ts)
   kept w d sends ts o bits = record { discards = λ e. refl; not-ending = o; stays-legal = λ l t. l; bits = bits }
 
@@ -156,13 +156,13 @@ module _ (q : Rules) (s : ℕ) (x : Record) where
 
   -- one that leaves none
   ends-last : (r : ℕ) (ts : Timers) → clearBit (x .receivers) r ≡ 0 → Row (End r) (ruling idle ended endResponse ts)
-  unfolding legal legalIn
+  unfolding legal legalIn sameRecord
   ends-last r ts z =
       record { discards = λ e. cc; not-ending = λ e. cc; stays-legal = λ l u. tt; bits = λ l p. clear-bits (x .receivers) r 0 p z }
 
   -- "end by r"
   end-row : (r : ℕ) → Row (End r) (onEnd x r)
-  unfolding onEnd left clearBit
+  unfolding onEnd afterClearing clearBit
   end-row r =
       let b = x .receivers in
       pick-cases (Row (End r)) (watches b r) _ _
@@ -173,7 +173,7 @@ module _ (q : Rules) (s : ℕ) (x : Record) where
 
   -- "open"
   open-row : Row Open (onOpen x)
-  unfolding onOpen legal legalIn
+  unfolding onOpen legal legalIn sameRecord
   open-row =
       pick-cases (Row Open) (is Free x) _ _
       (λ t. record { discards = λ e. cc; not-ending = λ e. cc; stays-legal = λ l u. tt; bits = λ l r. rw (watches-none, and-false) })
@@ -181,7 +181,7 @@ module _ (q : Rules) (s : ℕ) (x : Record) where
 
   -- "T11 expired"
   t11-row : Row T11 (onT11 x)
-  unfolding onT11 legal legalIn
+  unfolding onT11 legal legalIn sameRecord
   t11-row =
       pick-cases (Row T11) (is Idle x) _ _
       (λ t. record { discards = λ e. cc; not-ending = λ e. cc; stays-legal = λ l u. tt; bits = λ l r. rw (watches-none, legal-none 1 t refl l r) })
@@ -189,7 +189,7 @@ module _ (q : Rules) (s : ℕ) (x : Record) where
 
   -- "end response from s"
   end-response-row : (asked : Bool) → Row (EndResponse asked) (onEndResponse x asked)
-  unfolding onEndResponse legal legalIn
+  unfolding onEndResponse legal legalIn sameRecord
   end-response-row asked =
       pick-cases (Row (EndResponse asked)) (is Ending x) _ _
       (λ t. record { discards = λ e. cc; not-ending = λ e. cc; stays-legal = λ l u. tt; bits = λ l r. rw (watches-none, legal-none 3 t refl l r) })
@@ -197,7 +197,7 @@ module _ (q : Rules) (s : ℕ) (x : Record) where
 
   -- "release"
   release-row : Row Release (onRelease x)
-  unfolding onRelease legal legalIn
+  unfolding onRelease legal legalIn sameRecord
   release-row =
       pick-cases (Row Release) (is Free x) _ _
       (λ t. kept Release discarded _ _ (λ e. cc) (λ l r. rw (legal-none 0 t refl l r)))
@@ -219,6 +219,73 @@ module _ (q : Rules) (s : ℕ) (x : Record) where
 pub rule-discards : (q : Rules) (s : ℕ) (x : Record) (w : What) → ruleFor q s x w .reply .done ≡ discarded → ruleFor q s x w .becomes ≡ x
 rule-discards q s x w e = rule-row q s x w .discards e
 
+-- what an answer says: a discarded event has no message and no timer, and a granted response is sent exactly where a grant is answered
+abbrev Plain : Ruling → Type 0
+Plain m =
+    (m .reply .done ≡ discarded → (m .reply .sends ≡ none) × (m .reply .timers ≡ untouched))
+    × ((m .reply .done ≡ granted) ↔ (m .reply .sends ≡ grant))
+
+abbrev wasDiscarded : Done → Bool
+wasDiscarded granted = false
+wasDiscarded rejected = false
+wasDiscarded ended = false
+wasDiscarded opened = false
+wasDiscarded endRequested = false
+wasDiscarded freed = false
+wasDiscarded released = false
+wasDiscarded discarded = true
+
+-- a Result of 1
+abbrev is1 : Option ℕ → Bool
+is1 none = false
+is1 (some r) = eqb r 1
+
+-- a granted response
+abbrev isGrant : Option Sent → Bool
+isGrant none = false
+isGrant (some m) = eqb (m .kind) 2 && is1 (m .result)
+
+-- an answer that is neither
+neither : (x : Record) (d : Done) (sends : Option Sent) (ts : Timers) → wasGranted d ≡ false → wasDiscarded d ≡ false → isGrant sends ≡ false
+    → Plain (ruling x d sends ts)
+neither x d sends ts p q r = (
+  (λ e. absurd (false-T (wasDiscarded d) q (rw e tt))),
+  ((λ e. absurd (false-T (wasGranted d) p (rw e tt))), (λ e. absurd (false-T (isGrant sends) r (rw e tt)))),
+)
+
+-- a grant
+granting : (x : Record) (ts : Timers) → Plain (ruling x granted grant ts)
+granting x ts = ((λ e. (cc, cc)), ((λ e. refl), (λ e. refl)))
+
+-- a discarded event
+discarding : (x : Record) → Plain (discard x)
+discarding x = ((λ e. (refl, refl)), ((λ e. cc), (λ e. cc)))
+
+-- so is every answer of the table
+rule-plain : (q : Rules) (s : ℕ) (x : Record) (w : What) → Plain (ruleFor q s x w)
+unfolding ruleFor onRequest onEnd afterClearing onOpen onT11 onEndResponse onRelease
+rule-plain q s x (Request r) =
+    let rejecting : (cause : ℕ) → Plain (reject x cause) = λ cause. neither x rejected (rejection cause) untouched refl refl refl in
+    pick-cases Plain (eqb r s) _ _ (λ t. rejecting noPermissionToReceive)
+    (λ f. pick-cases Plain (is Free x || is Ending x) _ _ (λ t. rejecting noPermissionToReceive)
+    (λ f. pick-cases Plain (watches (x .receivers) r) _ _ (λ t. granting x untouched)
+    (λ f. pick-cases Plain (leb (q .limit) (count x)) _ _ (λ t. rejecting insufficientDownlinkBandwidth) (λ f. granting x _))))
+rule-plain q s x (End r) =
+    let ending : (y : Record) (ts : Timers) → Plain (ruling y ended endResponse ts) = λ y ts. neither y ended endResponse ts refl refl refl in
+    pick-cases Plain (watches (x .receivers) r) _ _
+    (λ t. pick-cases Plain (eqb (clearBit (x .receivers) r) 0) _ _ (λ u. ending x _) (λ f. ending x _))
+    (λ f. ending x _)
+rule-plain q s x Open = pick-cases Plain (is Free x) _ _ (λ t. neither x opened none _ refl refl refl) (λ f. discarding x)
+rule-plain q s x T11 =
+    pick-cases Plain (is Idle x) _ _ (λ t. neither x endRequested (endRequest noReceivingParticipant) _ refl refl refl) (λ f. discarding x)
+rule-plain q s x (EndResponse true) = pick-cases Plain (is Ending x) _ _ (λ t. neither x freed ack _ refl refl refl) (λ f. discarding x)
+rule-plain q s x (EndResponse false) = pick-cases Plain (is Ending x) _ _ (λ t. neither x freed none _ refl refl refl) (λ f. discarding x)
+rule-plain q s x Release = pick-cases Plain (is Free x) _ _ (λ t. discarding x) (λ f. neither x released none _ refl refl refl)
+
+-- a grant is answered exactly where a granted response is sent
+pub granted-exactly : GrantedExactly
+granted-exactly q s x w = rule-plain q s x w .1
+
 -- no event is granted on a record that is Ending
 pub rule-grants : (q : Rules) (s : ℕ) (x : Record) (w : What) → ruleFor q s x w .reply .done ≡ granted → is Ending x ≡ false
 rule-grants q s x w e = rule-row q s x w .not-ending e
@@ -231,7 +298,7 @@ module _ (q : Rules) (s : ℕ) (x : Record) (w : What) (l : T (legal q s x)) (se
   -- a bit is set afterwards exactly if it was granted now, or was set and was not ended now
   pub rule-bits : (r : ℕ)
       → watches (ruleFor q s x w .becomes .receivers) r
-      ≡ (grants r w (ruleFor q s x w .reply .done) || (watches (x .receivers) r && not (ends r w (ruleFor q s x w .reply .done))))
+      ≡ (grants r w (ruleFor q s x w .reply .done) || (watches (x .receivers) r && not (undoes r w (ruleFor q s x w .reply .done))))
   rule-bits r = rule-row q s x w .bits l r
 
 -- working out from a legal record gives a legal record
@@ -240,8 +307,10 @@ works-out-legal s x e a p =
     let g = attempt-gives s x e a p in
     rw (← g .same) (rule-legal (rulesOf s) (e .stream) x (e .what) (g .is-legal) (g .sender))
 
--- a discarded event keeps the record
+-- a discarded event keeps the record, and has no message and no timer
 pub discard-keeps : DiscardKeeps
 discard-keeps s x e a p d =
     let g = attempt-gives s x e a p in
-    rw (← g .same) (rule-discards (rulesOf s) (e .stream) x (e .what) (cc (g .same)))
+    let w : ruleFor (rulesOf s) (e .stream) x (e .what) .reply .done ≡ discarded = cc (g .same) in
+    let plain = rule-plain (rulesOf s) (e .stream) x (e .what) .0 w in
+    rw (← g .same) (record { same = rule-discards (rulesOf s) (e .stream) x (e .what) w; silent = plain .0; still = plain .1 })

@@ -14,7 +14,7 @@ use Rattle.reception.specs.declared.Event.{Event}
 use Rattle.reception.specs.Record.{rulesOf, onSheet, sameRecord, legal}
 use Rattle.reception.specs.Answer.{Reply}
 use Rattle.reception.specs.Table.{senderOn, ruleFor}
-use Rattle.reception.specs.Steps.{Said, gives, check, Try, seenOf, attemptOf, takes}
+use Rattle.reception.specs.Steps.{Said, gives, check, Try, seenOf, attemptOf, replyOf}
 use Rattle.reception.proofs.Laws.Records.{same-equal}
 
 -- ---- seats
@@ -91,9 +91,9 @@ pub record TakeRight (s : Sheet) (a : Try) (x : Record) (reply : Reply) : Type 0
   pub seen : x ≡ a .seen
   pub same : a .reply ≡ reply
 
-pub takes-gives : (s : Sheet) (a : Try) (x : Record) (reply : Reply) → takes s a x ≡ gives reply → TakeRight s a x reply
-unfolding takes
-takes-gives s a x reply p =
+pub reply-gives : (s : Sheet) (a : Try) (x : Record) (reply : Reply) → replyOf s a x ≡ gives reply → TakeRight s a x reply
+unfolding replyOf
+reply-gives s a x reply p =
     let q = rulesOf s in
     let good = legal q (a .stream) in
     let right = onSheet q (a .stream) && (good x && (good (a .seen) && good (a .wanted))) in

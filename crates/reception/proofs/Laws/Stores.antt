@@ -1,25 +1,28 @@
--- The store rule, and that every schedule keeps the eight records legal. Assumes nothing.
+-- What the steps do to the eight records: reading and working out change nothing, the store rule, and that every schedule keeps them legal.
+-- Assumes nothing.
 use mathlib.Core.Path.{_≡_, refl}
 use mathlib.Core.Logic.{⊎-elim}
 use mathlib.Core.List.{List, [], _∷_}
 use Prim.Native.Nat.{ℕ, _<_}
 use native.Mathlib.Omega.{arith}
-use lib.ListN.{length, set, length-set}
+use lib.ListN.{length, set, length-set, length-replicate, getD-replicate}
 use lib.Seq.{getD-set-same, getD-set-other}
 use lib.Dec.{T, eqb, eqb→eq}
 use borrow.Author.Tests.{eqb-false}
-use Rattle.octets.proofs.Choice.{T-true, decide}
+use Rattle.octets.proofs.Choice.{T-true, decide, pick-same}
 use Rattle.sheet.specs.declared.Sheet.{Sheet}
 use Rattle.sheet.specs.Table.{mostSeats}
 use Rattle.sheet.specs.Value.{validAlone}
 use Rattle.reception.specs.declared.Record.{Record}
-use Rattle.reception.specs.Record.{rulesOf, onSheet, free, sameRecord, legal}
+use Rattle.reception.specs.Record.{rulesOf, onSheet, free, sameRecord, legalIn, legal, own}
 use Rattle.reception.specs.Answer.{Reply}
-use Rattle.reception.specs.Steps.{Said, gives, refuses, check, own, Try, readOf, workOf, takes, stored, storeOf}
+use Rattle.reception.specs.Table.{senderOn}
+use Rattle.reception.specs.Steps.{Said, gives, refuses, check, Try, seenOf, readOf, attemptOf, workOf, replyOf, stored, storeOf}
 use Rattle.reception.specs.Schedule.{Step, reads, worksOut, stores, State, after, start, run}
-use Rattle.reception.specs.Claims.{Legal, Storable, StoreRule, StaysLegal}
+use Rattle.reception.specs.Claims.{Legal, StartsLegal, ReadRule, WorkRule, Storable, StoreRule, RefusedKeeps, StaysLegal, Undisturbed}
 use Rattle.reception.proofs.Laws.Records.{equal-same, other-same}
-use Rattle.reception.proofs.Laws.Steps.{on-sheet-below, takes-gives}
+use Rattle.reception.proofs.Laws.Steps.{on-sheet-below, tried, reply-gives}
+use Rattle.reception.proofs.Laws.Rules.{rule-legal}
 
 -- ---- the records after one was set
 
@@ -51,13 +54,25 @@ unfolding stored
 length-stored a rs (gives reply) = length-set rs (a .stream) (a .wanted)
 length-stored a rs (refuses number at) = refl
 
--- ---- the claims
+-- ---- reading and working out
+
+pub read-rule : ReadRule
+unfolding readOf seenOf
+read-rule s stream rs =
+    let q = rulesOf s in
+    (refl, λ v on l. rw (T-true (validAlone s) v, T-true (onSheet q stream) on, T-true (legal q stream (own rs stream)) l))
+
+pub work-rule : WorkRule
+unfolding workOf
+work-rule s x e rs = refl
+
+-- ---- the store rule
 
 module _ (s : Sheet) (a : Try) (rs : List Record) (h : Storable s a rs) where
   -- what is left to check is that the record equals the one seen
-  takes-checks : takes s a (own rs (a .stream)) ≡ check (sameRecord (own rs (a .stream)) (a .seen)) 10 (gives (a .reply))
-  unfolding takes
-  takes-checks =
+  reply-checks : replyOf s a (own rs (a .stream)) ≡ check (sameRecord (own rs (a .stream)) (a .seen)) 10 (gives (a .reply))
+  unfolding replyOf
+  reply-checks =
       let q = rulesOf s in
       let good = legal q (a .stream) in
       rw (
@@ -69,32 +84,51 @@ module _ (s : Sheet) (a : Try) (rs : List Record) (h : Storable s a rs) where
       )
 
   -- where it does, the store gives the answer
-  takes-fresh : own rs (a .stream) ≡ a .seen → takes s a (own rs (a .stream)) ≡ gives (a .reply)
-  takes-fresh e = rw (takes-checks, T-true (sameRecord (own rs (a .stream)) (a .seen)) (equal-same (own rs (a .stream)) (a .seen) e))
+  reply-fresh : own rs (a .stream) ≡ a .seen → replyOf s a (own rs (a .stream)) ≡ gives (a .reply)
+  reply-fresh e = rw (reply-checks, T-true (sameRecord (own rs (a .stream)) (a .seen)) (equal-same (own rs (a .stream)) (a .seen) e))
 
   -- where it does not, it is stale
-  takes-stale : (own rs (a .stream) ≡ a .seen → ⊥) → takes s a (own rs (a .stream)) ≡ refuses 10 0
-  takes-stale n = rw (takes-checks, other-same (own rs (a .stream)) (a .seen) n)
+  reply-stale : (own rs (a .stream) ≡ a .seen → ⊥) → replyOf s a (own rs (a .stream)) ≡ refuses 10 0
+  reply-stale n = rw (reply-checks, other-same (own rs (a .stream)) (a .seen) n)
 
 pub store-rule : StoreRule
 unfolding storeOf stored
 store-rule s a rs h =
     let x = own rs (a .stream) in
     record {
-      exactly = ((λ e. takes-gives s a x (a .reply) e .seen), takes-fresh s a rs h);
-      wanted = λ e. rw (takes-fresh s a rs h e) (own-set-on s rs (a .stream) (a .wanted) (h .eight) (h .sheet) (h .stream));
-      others = stored-other a rs (takes s a x);
+      exactly = ((λ e. reply-gives s a x (a .reply) e .seen), reply-fresh s a rs h);
+      wanted = λ e. rw (reply-fresh s a rs h e) (own-set-on s rs (a .stream) (a .wanted) (h .eight) (h .sheet) (h .stream));
+      others = stored-other a rs (replyOf s a x);
       eight = rw length-stored (h .eight);
-      stale = λ n. rw (takes-stale s a rs h n);
+      stale = λ n. rw (reply-stale s a rs h n);
     }
 
+pub refused-keeps : RefusedKeeps
+unfolding storeOf stored
+refused-keeps s a rs number at e = rw e
+
+-- ---- legal records
+
+pub starts-legal : StartsLegal
+unfolding legal legalIn sameRecord
+starts-legal s =
+    record {
+      eight = length-replicate mostSeats free;
+      each = λ k l. rw (getD-replicate mostSeats k free free l) (rw pick-same tt);
+    }
+
+-- a seat on the sheet has a legal one
+pub legal-own : (s : Sheet) (rs : List Record) (k : ℕ) → T (validAlone s) → T (onSheet (rulesOf s) k) → Legal s rs → T (legal (rulesOf s) k (own rs k))
+unfolding mostSeats
+legal-own s rs k v on h = rw (T-true (onSheet (rulesOf s) k) on) at (h .each k (omega (arith, on-sheet-below s k v on)))
+
 -- a store keeps them legal
-stored-legal : (s : Sheet) (a : Try) (rs : List Record) (said : Said Reply) → takes s a (own rs (a .stream)) ≡ said
+stored-legal : (s : Sheet) (a : Try) (rs : List Record) (said : Said Reply) → replyOf s a (own rs (a .stream)) ≡ said
     → Legal s rs → Legal s (stored a rs said)
 unfolding stored
 stored-legal s a rs (gives reply) e h =
     let here = a .stream in
-    let t = takes-gives s a (own rs here) reply e in
+    let t = reply-gives s a (own rs here) reply e in
     let set-here = own-set-on s rs here (a .wanted) (h .eight) (t .valid) (t .on) in
     record {
       eight = rw length-set (h .eight);
@@ -108,9 +142,9 @@ stored-legal s a rs (refuses number at) e h = h
 -- one step keeps them legal
 pub after-legal : (s : Sheet) (x : Step) (m : State) → Legal s (m .records) → Legal s (after s x m .records)
 unfolding after readOf workOf storeOf
-after-legal s (reads q stream) m h = h
-after-legal s (worksOut q x e) m h = h
-after-legal s (stores q a e) m h = stored-legal s a (m .records) _ refl h
+after-legal s (reads by stream) m h = h
+after-legal s (worksOut by x e) m h = h
+after-legal s (stores by a e) m h = stored-legal s a (m .records) _ refl h
 
 -- all steps do
 run-legal : (s : Sheet) (steps : List Step) (m : State) → Legal s (m .records) → Legal s (run s steps m .records)
@@ -120,3 +154,26 @@ run-legal s (x ∷ xs) m h = run-legal s xs (after s x m) (after-legal s x m h)
 
 pub stays-legal : StaysLegal
 stays-legal s rs steps h = run-legal s steps (start rs) h
+
+-- ---- undisturbed
+
+pub undisturbed : Undisturbed
+unfolding attemptOf storeOf stored
+undisturbed s rs e v h on sender =
+    let q = rulesOf s in
+    let x = own rs (e .stream) in
+    let a = tried s x e in
+    let l = legal-own s rs (e .stream) v on h in
+    let storable : Storable s a rs =
+    record {
+      sheet = v;
+      eight = h .eight;
+      stream = on;
+      own-legal = l;
+      seen-legal = l;
+      wanted-legal = rule-legal q (e .stream) x (e .what) l sender;
+    } in (
+      a,
+      rw (T-true (validAlone s) v, T-true (onSheet q (e .stream)) on, T-true (senderOn q (e .what)) sender, T-true (legal q (e .stream) x) l),
+      rw (reply-fresh s a rs storable refl),
+    )

@@ -3,35 +3,19 @@
 use mathlib.Core.Path.{_≡_, sym, ap, _∙_}
 use mathlib.Core.Bool.{true}
 use Prim.Native.Nat.{_<_, _≤_}
-use lib.ListN.{length}
 use borrow.Author.Needs.{needs}
 use borrow.Author.Tests.{not-true, not-false}
 use Rattle.octets.proofs.Choice.{true-T}
-use Rattle.sheet.specs.Table.{mostSeats}
 use Rattle.sheet.specs.Value.{validAlone}
-use Rattle.sheet.specs.Promises.{valid≡}
-use Rattle.sheet.proofs.Laws.Values.{judged-own}
 use Rattle.reception.specs.declared.stream.Rules.{Rules}
-use Rattle.reception.specs.Record.{rulesOf, onSheet, legal}
-use Rattle.reception.specs.Steps.{own, seenOf, readOf}
+use Rattle.reception.specs.Record.{rulesOf, onSheet, legal, own}
+use Rattle.reception.specs.Steps.{seenOf, readOf}
 use Rattle.reception.proofs.Laws.Checks.{seats-fit}
 use Rattle.reception.proofs.read.Statement.{statement}
 use Rattle.reception.proofs.read.Tie as tie
 
--- the sheet has eight SSRCs
-eight : (c : tie.After-are-valid) → length (c .before .before .before .args .sheet .ssrcs) ≡ mostSeats
-unfolding mostSeats
-eight c = search needs
-
--- whether it is valid
-judged : (c : tie.After-are-valid) → valid≡ (c .before .before .before .args .sheet) (c .are-valid .result)
-judged c = judged-own _ _ _ (eight c) (c .before .before .numbers-of .ensures) (c .are-valid .ensures)
-
-numbers-of-requires : tie.Need-numbers-of-requires
-numbers-of-requires c κs = search needs
-
-are-valid-requires : tie.Need-are-valid-requires
-are-valid-requires c κs = search needs
+valid-requires : tie.Need-valid-requires
+valid-requires c κs = search needs
 
 refusal-requires : tie.Need-refusal-requires
 refusal-requires c κs = search needs
@@ -40,11 +24,11 @@ returns : tie.Need-returns
 unfolding readOf seenOf
 returns c =
     let r = c .refusal .ensures in
-    rw (r .0, r .1, sym (judged (c .before .before)) ∙ not-true _ (c .before .if1 .taken))
+    rw (r .0, r .1, sym (c .before .before .valid .ensures) ∙ not-true _ (c .before .if1 .taken))
 
 -- past the first test the sheet is valid
-valid : (c : tie.Else1) → validAlone (c .before .before .before .before .args .sheet) ≡ true
-valid c = sym (judged (c .before)) ∙ not-false _ (c .if1 .left)
+is-valid : (c : tie.Else1) → validAlone (c .before .before .args .sheet) ≡ true
+is-valid c = sym (c .before .valid .ensures) ∙ not-false _ (c .if1 .left)
 
 rules-of-requires : tie.Need-rules-of-requires
 rules-of-requires c κs = search needs
@@ -54,10 +38,10 @@ is-on-requires c κs = search needs
 
 -- whether the stream is on it
 on : (c : tie.After-is-on)
-    → let a = c .before .before .before .before .before .before .args in
+    → let a = c .before .before .before .before .args in
     c .is-on .result ≡ onSheet (rulesOf (a .sheet)) (a .stream)
 on c =
-    let a = c .before .before .before .before .before .before .args in
+    let a = c .before .before .before .before .args in
     c .is-on .ensures ∙ ap (λ (q : Rules). onSheet q (a .stream)) (c .before .rules-of .ensures)
 
 refusal-requires-2 : tie.Need-refusal-requires-2
@@ -68,22 +52,22 @@ unfolding readOf seenOf
 returns-2 c =
     let test = c .before in
     let r = c .refusal2 .ensures in
-    rw (r .0, r .1, valid (test .before .before .before), sym (on (test .before)) ∙ not-true _ (test .if2 .taken))
+    rw (r .0, r .1, is-valid (test .before .before .before), sym (on (test .before)) ∙ not-true _ (test .if2 .taken))
 
 -- past the second test it is
 stream-on : (c : tie.Else2)
-    → let a = c .before .before .before .before .before .before .before .args in
+    → let a = c .before .before .before .before .before .args in
     onSheet (rulesOf (a .sheet)) (a .stream) ≡ true
 stream-on c = sym (on (c .before)) ∙ not-false _ (c .if2 .left)
 
 -- so that it has a record
 fits : (c : tie.Else2)
-    → (c .before .before .before .before .before .before .before .args .stream < 8) × (c .before .before .rules-of .result .seats ≤ 8)
+    → (c .before .before .before .before .before .args .stream < 8) × (c .before .before .rules-of .result .seats ≤ 8)
 fits c =
     let ruled = c .before .before in
-    let a = ruled .before .before .before .before .before .args in
+    let a = ruled .before .before .before .args in
     seats-fit (a .sheet) (ruled .rules-of .result) (a .stream) (ruled .rules-of .ensures)
-    (true-T _ (valid (ruled .before)))
+    (true-T _ (is-valid (ruled .before)))
     (true-T _ (stream-on c))
 
 mul-own : tie.Need-mul-own
@@ -97,11 +81,11 @@ is-legal-requires c κs = fits (c .before)
 
 -- whether that is legal
 own-judged : (c : tie.After-is-legal)
-    → let a = c .before .before .before .before .before .before .before .before .before .args in
+    → let a = c .before .before .before .before .before .before .before .args in
     c .is-legal .result ≡ legal (rulesOf (a .sheet)) (a .stream) (own (a .t2) (a .stream))
 own-judged c =
     let ruled = c .before .before .before .before in
-    let a = ruled .before .before .before .before .before .args in
+    let a = ruled .before .before .before .args in
     c .is-legal .ensures ∙ ap (λ (q : Rules). legal q (a .stream) (own (a .t2) (a .stream))) (ruled .rules-of .ensures)
 
 refusal-requires-3 : tie.Need-refusal-requires-3
@@ -116,7 +100,7 @@ returns-3 c =
     rw (
       r .0,
       r .1,
-      valid (streamed .before .before .before),
+      is-valid (streamed .before .before .before),
       stream-on streamed,
       sym (own-judged (test .before)) ∙ not-true _ (test .if3 .taken),
     )
@@ -125,14 +109,13 @@ returns-4 : tie.Need-returns-4
 unfolding readOf seenOf
 returns-4 c =
     let streamed = c .before .before .before in
-    rw (valid (streamed .before .before .before), stream-on streamed, sym (own-judged (c .before)) ∙ not-false _ (c .if3 .left))
+    rw (is-valid (streamed .before .before .before), stream-on streamed, sym (own-judged (c .before)) ∙ not-false _ (c .if3 .left))
 
 pub read-spec : {M : Type 1} → statement M
 read-spec =
     tie.close
     (tie.spec
-    numbers-of-requires
-    are-valid-requires
+    valid-requires
     refusal-requires
     returns
     rules-of-requires

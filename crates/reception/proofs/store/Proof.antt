@@ -2,7 +2,8 @@
 -- settled (`store-settled`); one that was refused refuses the store (`store-refused`). Assumes nothing.
 use mathlib.Core.Path.{_≡_, sym, ap, _∙_}
 use borrow.Author.Needs.{needs}
-use Rattle.reception.specs.Steps.{own, seenOf, seenSaid, attemptSaid}
+use Rattle.reception.specs.Record.{own}
+use Rattle.reception.specs.Steps.{seenOf, seenSaid, attemptSaid}
 use Rattle.reception.proofs.Laws.Steps.{seen-gives}
 use Rattle.reception.proofs.Laws.Checks.{seats-fit, read-said, store-settled, store-refused}
 use Rattle.reception.proofs.store.Statement.{statement}

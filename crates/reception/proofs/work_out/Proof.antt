@@ -2,36 +2,21 @@
 -- the byte, and the table's row is the attempt. Assumes nothing.
 use mathlib.Core.Path.{_≡_, sym, ap, _∙_}
 use mathlib.Core.Bool.{true}
-use lib.ListN.{length}
 use borrow.Author.Needs.{needs}
 use borrow.Author.Tests.{not-true, not-false}
 use Rattle.octets.proofs.Choice.{true-T}
-use Rattle.sheet.specs.Table.{mostSeats}
 use Rattle.sheet.specs.Value.{validAlone}
-use Rattle.sheet.specs.Promises.{valid≡}
-use Rattle.sheet.proofs.Laws.Values.{judged-own}
 use Rattle.reception.specs.declared.stream.Rules.{Rules}
 use Rattle.reception.specs.Record.{rulesOf, onSheet, legal}
 use Rattle.reception.specs.Table.{ruleFor, senderOn}
 use Rattle.reception.specs.Steps.{attemptOf, workOf}
-use Rattle.reception.proofs.Laws.Checks.{seats-fit, sender-fits}
+use Rattle.reception.proofs.Laws.Checks.{seats-fit}
+use Rattle.reception.proofs.Laws.Steps.{few}
 use Rattle.reception.proofs.work_out.Statement.{statement}
 use Rattle.reception.proofs.work_out.Tie as tie
 
--- the sheet has eight SSRCs
-eight : (c : tie.After-are-valid) → length (c .before .before .before .args .sheet .ssrcs) ≡ mostSeats
-unfolding mostSeats
-eight c = search needs
-
--- whether it is valid
-judged : (c : tie.After-are-valid) → valid≡ (c .before .before .before .args .sheet) (c .are-valid .result)
-judged c = judged-own _ _ _ (eight c) (c .before .before .numbers-of .ensures) (c .are-valid .ensures)
-
-numbers-of-requires : tie.Need-numbers-of-requires
-numbers-of-requires c κs = search needs
-
-are-valid-requires : tie.Need-are-valid-requires
-are-valid-requires c κs = search needs
+valid-requires : tie.Need-valid-requires
+valid-requires c κs = search needs
 
 refusal-requires : tie.Need-refusal-requires
 refusal-requires c κs = search needs
@@ -40,11 +25,11 @@ returns : tie.Need-returns
 unfolding workOf attemptOf
 returns c rs =
     let r = c .refusal .ensures in
-    rw (r .0, r .1, sym (judged (c .before .before)) ∙ not-true _ (c .before .if1 .taken))
+    rw (r .0, r .1, sym (c .before .before .valid .ensures) ∙ not-true _ (c .before .if1 .taken))
 
 -- past the first test the sheet is valid
-valid : (c : tie.Else1) → validAlone (c .before .before .before .before .args .sheet) ≡ true
-valid c = sym (judged (c .before)) ∙ not-false _ (c .if1 .left)
+is-valid : (c : tie.Else1) → validAlone (c .before .before .args .sheet) ≡ true
+is-valid c = sym (c .before .valid .ensures) ∙ not-false _ (c .if1 .left)
 
 rules-of-requires : tie.Need-rules-of-requires
 rules-of-requires c κs = search needs
@@ -54,10 +39,10 @@ is-on-requires c κs = search needs
 
 -- whether the stream is on it
 on : (c : tie.After-is-on)
-    → let a = c .before .before .before .before .before .before .args in
+    → let a = c .before .before .before .before .args in
     c .is-on .result ≡ onSheet (rulesOf (a .sheet)) (a .event .stream)
 on c =
-    let a = c .before .before .before .before .before .before .args in
+    let a = c .before .before .before .before .args in
     c .is-on .ensures ∙ ap (λ (q : Rules). onSheet q (a .event .stream)) (c .before .rules-of .ensures)
 
 refusal-requires-2 : tie.Need-refusal-requires-2
@@ -68,11 +53,11 @@ unfolding workOf attemptOf
 returns-2 c rs =
     let test = c .before in
     let r = c .refusal2 .ensures in
-    rw (r .0, r .1, valid (test .before .before .before), sym (on (test .before)) ∙ not-true _ (test .if2 .taken))
+    rw (r .0, r .1, is-valid (test .before .before .before), sym (on (test .before)) ∙ not-true _ (test .if2 .taken))
 
 -- past the second test it is
 stream-on : (c : tie.Else2)
-    → let a = c .before .before .before .before .before .before .before .args in
+    → let a = c .before .before .before .before .before .args in
     onSheet (rulesOf (a .sheet)) (a .event .stream) ≡ true
 stream-on c = sym (on (c .before)) ∙ not-false _ (c .if2 .left)
 
@@ -81,11 +66,11 @@ is-sender-on-requires c κs = search needs
 
 -- whether the sender is on it
 sent : (c : tie.After-is-sender-on)
-    → let a = c .before .before .before .before .before .before .before .before .args in
+    → let a = c .before .before .before .before .before .before .args in
     c .is-sender-on .result ≡ senderOn (rulesOf (a .sheet)) (a .event .what)
 sent c =
     let ruled = c .before .before .before in
-    let a = ruled .before .before .before .before .before .args in
+    let a = ruled .before .before .before .args in
     c .is-sender-on .ensures ∙ ap (λ (q : Rules). senderOn q (a .event .what)) (ruled .rules-of .ensures)
 
 refusal-requires-3 : tie.Need-refusal-requires-3
@@ -100,14 +85,14 @@ returns-3 c rs =
     rw (
       r .0,
       r .1,
-      valid (streamed .before .before .before),
+      is-valid (streamed .before .before .before),
       stream-on streamed,
       sym (sent (test .before)) ∙ not-true _ (test .if3 .taken),
     )
 
 -- past the third test it is
 sender-on : (c : tie.Else3)
-    → let a = c .before .before .before .before .before .before .before .before .before .args in
+    → let a = c .before .before .before .before .before .before .before .args in
     senderOn (rulesOf (a .sheet)) (a .event .what) ≡ true
 sender-on c = sym (sent (c .before)) ∙ not-false _ (c .if3 .left)
 
@@ -115,18 +100,18 @@ is-legal-requires : tie.Need-is-legal-requires
 is-legal-requires c κs =
     let streamed = c .before .before in
     let ruled = streamed .before .before in
-    let a = ruled .before .before .before .before .before .args in
+    let a = ruled .before .before .before .args in
     seats-fit (a .sheet) (ruled .rules-of .result) (a .event .stream) (ruled .rules-of .ensures)
-    (true-T _ (valid (ruled .before)))
+    (true-T _ (is-valid (ruled .before)))
     (true-T _ (stream-on streamed))
 
 -- whether the record seen is legal
 seen-judged : (c : tie.After-is-legal)
-    → let a = c .before .before .before .before .before .before .before .before .before .before .args in
+    → let a = c .before .before .before .before .before .before .before .before .args in
     c .is-legal .result ≡ legal (rulesOf (a .sheet)) (a .event .stream) (a .seen)
 seen-judged c =
     let ruled = c .before .before .before .before .before in
-    let a = ruled .before .before .before .before .before .args in
+    let a = ruled .before .before .before .args in
     c .is-legal .ensures ∙ ap (λ (q : Rules). legal q (a .event .stream) (a .seen)) (ruled .rules-of .ensures)
 
 refusal-requires-4 : tie.Need-refusal-requires-4
@@ -142,7 +127,7 @@ returns-4 c rs =
     rw (
       r .0,
       r .1,
-      valid (streamed .before .before .before),
+      is-valid (streamed .before .before .before),
       stream-on streamed,
       sender-on sending,
       sym (seen-judged (test .before)) ∙ not-true _ (test .if4 .taken),
@@ -151,9 +136,9 @@ returns-4 c rs =
 change-of-requires : tie.Need-change-of-requires
 change-of-requires c κs =
     let sending = c .before .before in
-    let checked = sending .before .before .before .before .before in
-    let a = checked .before .before .before .before .args in
-    sender-fits (a .sheet) (a .event .what) (true-T _ (valid checked)) (true-T _ (sender-on sending))
+    let ruled = sending .before .before .before .before in
+    let a = ruled .before .before .before .args in
+    rw (ruled .rules-of .ensures) (true-T _ (sender-on sending), few (a .sheet) (true-T _ (is-valid (ruled .before))))
 
 returns-5 : tie.Need-returns-5
 unfolding workOf attemptOf
@@ -162,9 +147,9 @@ returns-5 c rs =
     let sending = test .before .before in
     let streamed = sending .before .before in
     let ruled = streamed .before .before in
-    let a = ruled .before .before .before .before .before .args in
+    let a = ruled .before .before .before .args in
     rw (
-      valid (ruled .before),
+      is-valid (ruled .before),
       stream-on streamed,
       sender-on sending,
       sym (seen-judged (test .before)) ∙ not-false _ (test .if4 .left),
@@ -175,8 +160,7 @@ pub work-out-spec : {M : Type 1} → statement M
 work-out-spec =
     tie.close
     (tie.spec
-    numbers-of-requires
-    are-valid-requires
+    valid-requires
     refusal-requires
     returns
     rules-of-requires

@@ -7,19 +7,19 @@ use borrow.Author.Needs.{needs}
 use borrow.Author.Tests.{not-true, not-false, eq-eqb, ne-eqb}
 use Rattle.octets.proofs.Choice.{true-T}
 use Rattle.reception.specs.Record.{watches}
-use Rattle.reception.specs.Table.{left, onEnd}
+use Rattle.reception.specs.Table.{afterClearing, onEnd}
 use Rattle.reception.proofs.table.end.Statement.{statement}
 use Rattle.reception.proofs.table.end.Tie as tie
 
 has-requires : tie.Need-has-requires
 has-requires c κs = search needs
 
-changed-requires : tie.Need-changed-requires
-changed-requires c κs = search needs
+answered-requires : tie.Need-answered-requires
+answered-requires c κs = search needs
 
 returns : tie.Need-returns
 unfolding onEnd
-returns c = rw (c .changed .ensures .0, c .changed .ensures .1, sym (c .before .before .has .ensures) ∙ not-true _ (c .before .if1 .taken))
+returns c = rw (c .answered .ensures .0, c .answered .ensures .1, sym (c .before .before .has .ensures) ∙ not-true _ (c .before .if1 .taken))
 
 -- past the first test the seat is watching
 watching : (c : tie.Else1)
@@ -33,40 +33,40 @@ without-requires c κs = (c .before .before .pre, true-T _ (watching c))
 idle-requires : tie.Need-idle-requires
 idle-requires c κs = search needs
 
-changed-requires-2 : tie.Need-changed-requires-2
-changed-requires-2 c κs = search needs
+answered-requires-2 : tie.Need-answered-requires-2
+answered-requires-2 c κs = search needs
 
 returns-2 : tie.Need-returns-2
-unfolding onEnd left
+unfolding onEnd afterClearing
 returns-2 c =
     let cleared = c .before .before .before in
     let none = eq-eqb (cleared .without .result) 0 (omega arith) in
-    rw (c .changed2 .ensures .0, c .changed2 .ensures .1, c .before .idle .ensures, watching (cleared .before), ← cleared .without .ensures, none)
+    rw (c .answered2 .ensures .0, c .answered2 .ensures .1, c .before .idle .ensures, watching (cleared .before), ← cleared .without .ensures, none)
 
 watched-requires : tie.Need-watched-requires
 watched-requires c κs = search needs
 
-changed-requires-3 : tie.Need-changed-requires-3
-changed-requires-3 c κs = search needs
+answered-requires-3 : tie.Need-answered-requires-3
+answered-requires-3 c κs = search needs
 
 returns-3 : tie.Need-returns-3
-unfolding onEnd left
+unfolding onEnd afterClearing
 returns-3 c =
     let cleared = c .before .before .before in
     let some = ne-eqb (cleared .without .result) 0 (λ e. omega arith) in
-    rw (c .changed3 .ensures .0, c .changed3 .ensures .1, c .before .watched .ensures, watching (cleared .before), ← cleared .without .ensures, some)
+    rw (c .answered3 .ensures .0, c .answered3 .ensures .1, c .before .watched .ensures, watching (cleared .before), ← cleared .without .ensures, some)
 
 pub end-spec : {M : Type 1} → statement M
 end-spec =
     tie.close
     (tie.spec
     has-requires
-    changed-requires
+    answered-requires
     returns
     without-requires
     idle-requires
-    changed-requires-2
+    answered-requires-2
     returns-2
     watched-requires
-    changed-requires-3
+    answered-requires-3
     returns-3)

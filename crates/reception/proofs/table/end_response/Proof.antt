@@ -7,20 +7,20 @@ use Rattle.reception.proofs.table.end_response.Tie as tie
 enum-told : tie.Need-enum-told
 enum-told c = search needs
 
-changed-requires : tie.Need-changed-requires
-changed-requires c κs = search needs
+answered-requires : tie.Need-answered-requires
+answered-requires c κs = search needs
 
 enum-told-2 : tie.Need-enum-told-2
 enum-told-2 c = search needs
 
-changed-requires-2 : tie.Need-changed-requires-2
-changed-requires-2 c κs = search needs
+answered-requires-2 : tie.Need-answered-requires-2
+answered-requires-2 c κs = search needs
 
 enum-told-3 : tie.Need-enum-told-3
 enum-told-3 c = search needs
 
-changed-requires-3 : tie.Need-changed-requires-3
-changed-requires-3 c κs = search needs
+answered-requires-3 : tie.Need-answered-requires-3
+answered-requires-3 c κs = search needs
 
 enum-told-4 : tie.Need-enum-told-4
 enum-told-4 c = search needs
@@ -31,25 +31,25 @@ free-requires c κs = search needs
 freed-requires : tie.Need-freed-requires
 freed-requires c κs = search needs
 
-changed-requires-4 : tie.Need-changed-requires-4
-changed-requires-4 c κs = search needs
+answered-requires-4 : tie.Need-answered-requires-4
+answered-requires-4 c κs = search needs
 
 returns : tie.Need-returns
 unfolding onEndResponse
-returns c = rw (c .changed .ensures .0, c .changed .ensures .1, c .before .enum-told .given .1)
+returns c = rw (c .answered .ensures .0, c .answered .ensures .1, c .before .enum-told .given .1)
 
 returns-2 : tie.Need-returns-2
 unfolding onEndResponse
-returns-2 c = rw (c .changed2 .ensures .0, c .changed2 .ensures .1, c .before .enum-told2 .given .1)
+returns-2 c = rw (c .answered2 .ensures .0, c .answered2 .ensures .1, c .before .enum-told2 .given .1)
 
 returns-3 : tie.Need-returns-3
 unfolding onEndResponse
-returns-3 c = rw (c .changed3 .ensures .0, c .changed3 .ensures .1, c .before .enum-told3 .given .1)
+returns-3 c = rw (c .answered3 .ensures .0, c .answered3 .ensures .1, c .before .enum-told3 .given .1)
 
 returns-4 : tie.Need-returns-4
 unfolding onEndResponse
 returns-4 c =
-    rw (c .changed4 .ensures .0, c .changed4 .ensures .1, c .before .freed .ensures, c .before .before .free .ensures)
+    rw (c .answered4 .ensures .0, c .answered4 .ensures .1, c .before .freed .ensures, c .before .before .free .ensures)
     (rw (c .before .before .before .enum-told4 .given .1))
 
 pub end-response-spec : {M : Type 1} → statement M
@@ -57,15 +57,15 @@ end-response-spec =
     tie.close
     (tie.spec
     enum-told
-    changed-requires
+    answered-requires
     enum-told-2
-    changed-requires-2
+    answered-requires-2
     enum-told-3
-    changed-requires-3
+    answered-requires-3
     enum-told-4
     free-requires
     freed-requires
-    changed-requires-4
+    answered-requires-4
     returns
     returns-2
     returns-3

@@ -13,12 +13,12 @@ use Rattle.reception.proofs.table.join.Tie as tie
 has-requires : tie.Need-has-requires
 has-requires c κs = search needs
 
-changed-requires : tie.Need-changed-requires
-changed-requires c κs = search needs
+answered-requires : tie.Need-answered-requires
+answered-requires c κs = search needs
 
 returns : tie.Need-returns
 unfolding joined
-returns c = rw (c .changed .ensures .0, c .changed .ensures .1, sym (c .before .before .has .ensures) ∙ c .before .if1 .taken)
+returns c = rw (c .answered .ensures .0, c .answered .ensures .1, sym (c .before .before .has .ensures) ∙ c .before .if1 .taken)
 
 -- past the first test the seat is not watching
 not-watching : (c : tie.Else1)
@@ -29,15 +29,15 @@ not-watching c = sym (c .before .has .ensures) ∙ c .if1 .left
 count-of-requires : tie.Need-count-of-requires
 count-of-requires c κs = search needs
 
-changed-requires-2 : tie.Need-changed-requires-2
-changed-requires-2 c κs = search needs
+answered-requires-2 : tie.Need-answered-requires-2
+answered-requires-2 c κs = search needs
 
 returns-2 : tie.Need-returns-2
 unfolding joined
 returns-2 c =
     let counted = c .before .before .before in
     let full = le-leb (counted .before .before .before .args .rules .limit) (counted .count-of .result) (omega arith) in
-    rw (c .changed2 .ensures .0, c .changed2 .ensures .1, not-watching (counted .before), ← counted .count-of .ensures, full)
+    rw (c .answered2 .ensures .0, c .answered2 .ensures .1, not-watching (counted .before), ← counted .count-of .ensures, full)
 
 with-requires : tie.Need-with-requires
 with-requires c κs = (c .before .before .before .before .before .pre, not-watching (c .before .before .before))
@@ -45,15 +45,15 @@ with-requires c κs = (c .before .before .before .before .before .pre, not-watch
 watched-requires : tie.Need-watched-requires
 watched-requires c κs = search needs
 
-changed-requires-3 : tie.Need-changed-requires-3
-changed-requires-3 c κs = search needs
+answered-requires-3 : tie.Need-answered-requires-3
+answered-requires-3 c κs = search needs
 
 returns-3 : tie.Need-returns-3
 unfolding joined
 returns-3 c =
     let counted = c .before .before .before .before .before in
     let room = lt-leb (counted .before .before .before .args .rules .limit) (counted .count-of .result) (omega arith) in
-    rw (c .changed3 .ensures .0, c .changed3 .ensures .1, c .before .watched .ensures, c .before .before .with .ensures)
+    rw (c .answered3 .ensures .0, c .answered3 .ensures .1, c .before .watched .ensures, c .before .before .with .ensures)
     (rw (not-watching (counted .before), ← counted .count-of .ensures, room))
 
 pub join-spec : {M : Type 1} → statement M
@@ -61,12 +61,12 @@ join-spec =
     tie.close
     (tie.spec
     has-requires
-    changed-requires
+    answered-requires
     returns
     count-of-requires
-    changed-requires-2
+    answered-requires-2
     returns-2
     with-requires
     watched-requires
-    changed-requires-3
+    answered-requires-3
     returns-3)

@@ -10,42 +10,42 @@ enum-told c = search needs
 idle-requires : tie.Need-idle-requires
 idle-requires c κs = search needs
 
-changed-requires : tie.Need-changed-requires
-changed-requires c κs = search needs
+answered-requires : tie.Need-answered-requires
+answered-requires c κs = search needs
 
 enum-told-2 : tie.Need-enum-told-2
 enum-told-2 c = search needs
 
-changed-requires-2 : tie.Need-changed-requires-2
-changed-requires-2 c κs = search needs
+answered-requires-2 : tie.Need-answered-requires-2
+answered-requires-2 c κs = search needs
 
 enum-told-3 : tie.Need-enum-told-3
 enum-told-3 c = search needs
 
-changed-requires-3 : tie.Need-changed-requires-3
-changed-requires-3 c κs = search needs
+answered-requires-3 : tie.Need-answered-requires-3
+answered-requires-3 c κs = search needs
 
 enum-told-4 : tie.Need-enum-told-4
 enum-told-4 c = search needs
 
-changed-requires-4 : tie.Need-changed-requires-4
-changed-requires-4 c κs = search needs
+answered-requires-4 : tie.Need-answered-requires-4
+answered-requires-4 c κs = search needs
 
 returns : tie.Need-returns
 unfolding onOpen
-returns c = rw (c .before .before .enum-told .given .1, c .changed .ensures .0, c .changed .ensures .1, c .before .idle .ensures)
+returns c = rw (c .before .before .enum-told .given .1, c .answered .ensures .0, c .answered .ensures .1, c .before .idle .ensures)
 
 returns-2 : tie.Need-returns-2
 unfolding onOpen
-returns-2 c = rw (c .changed2 .ensures .0, c .changed2 .ensures .1, c .before .enum-told2 .given .1)
+returns-2 c = rw (c .answered2 .ensures .0, c .answered2 .ensures .1, c .before .enum-told2 .given .1)
 
 returns-3 : tie.Need-returns-3
 unfolding onOpen
-returns-3 c = rw (c .changed3 .ensures .0, c .changed3 .ensures .1, c .before .enum-told3 .given .1)
+returns-3 c = rw (c .answered3 .ensures .0, c .answered3 .ensures .1, c .before .enum-told3 .given .1)
 
 returns-4 : tie.Need-returns-4
 unfolding onOpen
-returns-4 c = rw (c .changed4 .ensures .0, c .changed4 .ensures .1, c .before .enum-told4 .given .1)
+returns-4 c = rw (c .answered4 .ensures .0, c .answered4 .ensures .1, c .before .enum-told4 .given .1)
 
 pub open-spec : {M : Type 1} → statement M
 open-spec =
@@ -53,13 +53,13 @@ open-spec =
     (tie.spec
     enum-told
     idle-requires
-    changed-requires
+    answered-requires
     enum-told-2
-    changed-requires-2
+    answered-requires-2
     enum-told-3
-    changed-requires-3
+    answered-requires-3
     enum-told-4
-    changed-requires-4
+    answered-requires-4
     returns
     returns-2
     returns-3
