@@ -2,12 +2,14 @@
 //
 // Standard input: how many cases there are; then for each an octet for what is asked, a length and that many octets.
 // Standard output: for each case a length and that many octets, the answer. Counts and lengths are four octets, big-endian.
-// What may be asked, 1 to 8, and what then stands in a case and in its answer: question.rt.
+// What may be asked, 1 to 12, and what then stands in a case and in its answer: question.rt and, from 9 on, schedule.rt.
 mod buffer;
 mod message;
 mod number;
 mod question;
+mod schedule;
 mod step;
+mod stream;
 mod value;
 
 ghost use Prim.Native.Nat.{_+_, _≤_};
@@ -29,6 +31,10 @@ fn answer(asked: u8, body: &[u8], out: &mut [u8]) -> usize
         6 => question::packets(body, out),
         7 => question::fields(body, out),
         8 => question::write(body, out),
+        9 => schedule::attempts(body, out),
+        10 => schedule::steps(body, out),
+        11 => schedule::schedules(body, out),
+        12 => schedule::stores_of_any(body, out),
         _ => 0,
     }
 }

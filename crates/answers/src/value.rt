@@ -10,7 +10,8 @@ pub const ROWS: usize = 76;
 // How many octets a value takes.
 pub const LENGTH: usize = ROWS + 480;
 
-fn octet_at(body: &[u8], at: usize) -> u8 {
+// The octet at a place; 0 past the end.
+pub fn octet_at(body: &[u8], at: usize) -> u8 {
     if at < body.len() { body[at] } else { 0 }
 }
 

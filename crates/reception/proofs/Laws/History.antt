@@ -189,4 +189,4 @@ count-told s steps stream h v on =
     let q = rulesOf s in
     let rs = run s steps (start allFree) .records in
     let l = legal-own s rs stream v on (stays-legal s allFree steps (starts-legal s)) in
-    rw (T-true (validAlone s) v, T-true (onSheet q stream) on, T-true (legal q stream (own rs stream)) l, count-from-history s steps stream h)
+    rw (T-true (validAlone s) v, T-true (onSheet q stream) on, T-true (legal q stream (own rs stream)) l) (ap gives (count-from-history s steps stream h))

@@ -129,11 +129,11 @@ module _ (q : Rules) (s : ℕ) (x : Record) where
   request-row : (r : ℕ) → Row (Request r) (onRequest q s x r)
   unfolding onRequest
   request-row r =
-      pick-cases (Row (Request r)) (eqb r s) _ _ (λ t. rejects r 1)
-      (λ n. pick-cases (Row (Request r)) (is Free x || is Ending x) _ _ (λ t. rejects r 1)
+      pick-cases (Row (Request r)) (eqb r s) _ _ (λ t. rejects r noPermissionToReceive)
+      (λ n. pick-cases (Row (Request r)) _ _ _ (λ t. rejects r noPermissionToReceive)
       (λ e. let o = or-false-both (is Free x) (is Ending x) e .1 in
       pick-cases (Row (Request r)) (watches (x .receivers) r) _ _ (λ t. grants-again r o t)
-      (λ f. pick-cases (Row (Request r)) (leb (q .limit) (count x)) _ _ (λ t. rejects r 0)
+      (λ f. pick-cases (Row (Request r)) (leb (q .limit) (count x)) _ _ (λ t. rejects r insufficientDownlinkBandwidth)
       (λ c. grants-new r _ n o f (leb-false (q .limit) (count x) c)))))
 
   -- "end by r" that leaves others

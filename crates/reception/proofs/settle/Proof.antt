@@ -4,7 +4,7 @@ use mathlib.Core.Path.{_≡_, sym, _∙_}
 use mathlib.Core.Bool.{true}
 use borrow.Author.Needs.{needs}
 use borrow.Author.Tests.{not-true, not-false}
-use Rattle.reception.specs.Record.{legal}
+use Rattle.reception.specs.Record.{sameRecord, legal}
 use Rattle.reception.specs.Steps.{stored}
 use Rattle.reception.specs.Inner.{settled, settledOf}
 use Rattle.reception.proofs.settle.Statement.{statement}
@@ -58,6 +58,12 @@ wanted-legal c = sym (c .before .is-legal2 .ensures) ∙ not-false _ (c .if2 .le
 is-same-requires : tie.Need-is-same-requires
 is-same-requires c κs = search needs
 
+-- whether the stream's own record is the one seen
+compared : (c : tie.After-is-same)
+    → let a = c .before .before .before .before .before .before .before .args in
+    sameRecord (a .own) (a .attempt .seen) ≡ c .is-same .result
+compared c = sym (c .is-same .ensures)
+
 refusal-requires-3 : tie.Need-refusal-requires-3
 refusal-requires-3 c κs = search needs
 
@@ -76,7 +82,7 @@ returns-3 c =
       r .1,
       seen-legal (legals .before .before),
       wanted-legal legals,
-      sym (test .before .is-same .ensures) ∙ not-true _ (test .if3 .taken),
+      compared (test .before) ∙ not-true _ (test .if3 .taken),
     )
 
 cast-after : tie.Need-cast-after
@@ -92,7 +98,7 @@ returns-4 : tie.Need-returns-4
 unfolding settledOf settled stored
 returns-4 c =
     let legals = c .before .before in
-    rw (seen-legal (legals .before .before), wanted-legal legals, sym (c .before .is-same .ensures) ∙ not-false _ (c .if3 .left))
+    rw (seen-legal (legals .before .before), wanted-legal legals, compared (c .before) ∙ not-false _ (c .if3 .left))
 
 pub settle-spec : {M : Type 1} → statement M
 settle-spec =

@@ -28,7 +28,7 @@ watching : (c : tie.Else1)
 watching c = sym (c .before .has .ensures) ∙ not-false _ (c .if1 .left)
 
 without-requires : tie.Need-without-requires
-without-requires c κs = (c .before .before .pre, true-T _ (watching c))
+without-requires c κs = (search needs, true-T _ (watching c))
 
 idle-requires : tie.Need-idle-requires
 idle-requires c κs = search needs

@@ -16,15 +16,21 @@ has-requires c κs = search needs
 answered-requires : tie.Need-answered-requires
 answered-requires c κs = search needs
 
+-- whether the seat is watching
+told : (c : tie.After-has)
+    → let a = c .before .args in
+    watches (a .own .receivers) (a .by) ≡ c .has .result
+told c = sym (c .has .ensures)
+
 returns : tie.Need-returns
 unfolding joined
-returns c = rw (c .answered .ensures .0, c .answered .ensures .1, sym (c .before .before .has .ensures) ∙ c .before .if1 .taken)
+returns c = rw (c .answered .ensures .0, c .answered .ensures .1, told (c .before .before) ∙ c .before .if1 .taken)
 
 -- past the first test the seat is not watching
 not-watching : (c : tie.Else1)
     → let a = c .before .before .args in
     watches (a .own .receivers) (a .by) ≡ false
-not-watching c = sym (c .before .has .ensures) ∙ c .if1 .left
+not-watching c = told (c .before) ∙ c .if1 .left
 
 count-of-requires : tie.Need-count-of-requires
 count-of-requires c κs = search needs

@@ -1,0 +1,88 @@
+-- `answers::schedule::steps` is safe and ends: a put leaves out as long as it was. Assumes nothing.
+use mathlib.Core.Path.{_≡_}
+use Prim.Native.Nat.{_≤_, _-_}
+use lib.ListN.{length}
+use borrow.Author.Needs.{needs}
+use Rattle.answers.proofs.schedule.steps.Statement.{statement}
+use Rattle.answers.proofs.schedule.steps.Tie as tie
+
+abbrev Inv-loop : tie.InvT-loop
+Inv-loop body out₀ sheet memory₀ n k₀ out memory k = (k ≤ n) × (length out ≡ length out₀)
+
+abbrev μ-loop : tie.MeasureT-loop
+μ-loop body out₀ sheet memory₀ n k₀ out memory k = n - k
+
+sheet-in-requires : tie.Need-sheet-in-requires Inv-loop μ-loop
+sheet-in-requires c κs = search needs
+
+first-memory-requires : tie.Need-first-memory-requires Inv-loop μ-loop
+first-memory-requires c κs = search needs
+
+items-requires : tie.Need-items-requires Inv-loop μ-loop
+items-requires c κs = search needs
+
+loop-holds : tie.Need-loop-holds Inv-loop μ-loop
+loop-holds c = search needs
+
+mul-put : tie.Need-mul-put Inv-loop μ-loop
+mul-put c = search needs
+
+mul-step : tie.Need-mul-step Inv-loop μ-loop
+mul-step c = search needs
+
+add-step : tie.Need-add-step Inv-loop μ-loop
+add-step c = search needs
+
+step-requires : tie.Need-step-requires Inv-loop μ-loop
+step-requires c κs = search needs
+
+put-said-requires : tie.Need-put-said-requires Inv-loop μ-loop
+put-said-requires c κs = search needs
+
+add-put-records : tie.Need-add-put-records Inv-loop μ-loop
+add-put-records c = search needs
+
+put-records-requires : tie.Need-put-records-requires Inv-loop μ-loop
+put-records-requires c κs = search needs
+
+add-k : tie.Need-add-k Inv-loop μ-loop
+add-k c = search needs
+
+loop-less : tie.Need-loop-less Inv-loop μ-loop
+loop-less c = search needs
+
+loop-again : tie.Need-loop-again Inv-loop μ-loop
+loop-again c = search needs
+
+mul-result : tie.Need-mul-result Inv-loop μ-loop
+mul-result c = search needs
+
+same-length : tie.Need-same-length Inv-loop μ-loop
+same-length c = search needs
+
+returns : tie.Need-returns Inv-loop μ-loop
+returns c = search needs
+
+pub steps-spec : {M : Type 1} → statement M
+steps-spec =
+    tie.close
+    (tie.spec
+    Inv-loop
+    μ-loop
+    sheet-in-requires
+    first-memory-requires
+    items-requires
+    loop-holds
+    mul-put
+    mul-step
+    add-step
+    step-requires
+    put-said-requires
+    add-put-records
+    put-records-requires
+    add-k
+    loop-less
+    loop-again
+    mul-result
+    same-length
+    returns)
