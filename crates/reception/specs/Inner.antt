@@ -6,13 +6,18 @@ use mathlib.Core.List.{List, [], _∷_}
 use mathlib.Core.Option.{none}
 use lib.Dec.{leb}
 use Rattle.octets.specs.Choice.{pick}
+use Rattle.sheet.specs.declared.Sheet.{Sheet}
+use Rattle.sheet.specs.Value.{validAlone}
 use Rattle.reception.specs.declared.Record.{Record}
+use Rattle.reception.specs.declared.Event.{Event}
+use Rattle.reception.specs.declared.Admitted.{Admitted}
+use Rattle.reception.specs.declared.Admitted.the-variants.{Under, Refused}
 use Rattle.reception.specs.declared.stream.Rules.{Rules}
 use Rattle.reception.specs.declared.table.Change.{Change}
-use Rattle.reception.specs.Record.{watches, setBit, watched, count, sameRecord, legal}
+use Rattle.reception.specs.Record.{rulesOf, onSheet, watches, setBit, watched, count, sameRecord, legal}
 use Rattle.reception.specs.Answer.{Reply, T3, granted, freed, grant, ack, timers, untouched, answerSaid}
-use Rattle.reception.specs.Table.{insufficientDownlinkBandwidth, Ruling, ruling, reject}
-use Rattle.reception.specs.Steps.{Said, gives, Left, leaving, check, Try, stored}
+use Rattle.reception.specs.Table.{insufficientDownlinkBandwidth, Ruling, ruling, reject, senderOn}
+use Rattle.reception.specs.Steps.{Said, gives, refuses, Left, leaving, check, Try, tryOf, stored, refusalSaid}
 
 abbrev pub changeSaid : Change → Ruling
 changeSaid c = record { becomes = c .becomes; reply = answerSaid (c .answer) }
@@ -27,6 +32,29 @@ joined q x r reply =
 -- the answer to an end response that frees the stream
 abbrev pub freedReply : Bool → Reply
 freedReply asked = record { done = freed; sends = pick asked ack none; timers = timers (T3 ∷ []) [] }
+
+-- ---- the checks, one after another
+
+-- what a stream on the sheet is judged by
+unfoldable pub admitted : Sheet → ℕ → Said Rules
+admitted s stream = check (validAlone s) 12 (check (onSheet (rulesOf s) stream) 9 (gives (rulesOf s)))
+
+abbrev pub admittedSaid : Admitted → Said Rules
+admittedSaid (Under q) = gives q
+admittedSaid (Refused r) = refusalSaid r
+
+-- what is behind checks that were passed, or the refusal
+abbrev pub past : {A B : Type 0} → Said A → Said B → Said B
+past (gives x) next = next
+past (refuses number at) next = refuses number at
+
+-- the own record of a stream on the sheet
+abbrev pub ownSeen : Rules → ℕ → Record → Said Record
+ownSeen q stream x = check (legal q stream x) 9 (gives x)
+
+-- an event on a stream on the sheet
+abbrev pub triedOn : Rules → Record → Event → Said Try
+triedOn q x e = check (senderOn q (e .what) && legal q (e .stream) x) 9 (gives (tryOf q x e))
 
 -- a store where the stream's own record is known and legal
 unfoldable pub settled : Rules → Try → Record → Said Reply

@@ -20,6 +20,7 @@ use Rattle.reception.specs.declared.Taking.the-variants.{Took, Refused a
 use Rattle.reception.specs.declared.Stored.{Stored}
 use Rattle.reception.specs.declared.Counted.{Counted}
 use Rattle.reception.specs.declared.Counted.the-variants.{Count, Refused as CountedRefused}
+use Rattle.reception.specs.declared.stream.Rules.{Rules}
 use Rattle.reception.specs.Record.{rulesOf, onSheet, own, count, sameRecord, legal}
 use Rattle.reception.specs.Answer.{Reply, answerSaid}
 use Rattle.reception.specs.Table.{ruleFor, senderOn}
@@ -63,14 +64,18 @@ readOf s stream rs = leaving rs (seenOf s stream (own rs stream))
 
 -- ---- "Work out takes a record, an event and the sheet and gives an attempt"
 
+-- the record wanted and the answer are the table's
+abbrev pub tryOf : Rules → Record → Event → Try
+tryOf q x e =
+    let rule = ruleFor q (e .stream) x (e .what) in
+    record { stream = e .stream; seen = x; wanted = rule .becomes; reply = rule .reply }
+
 -- 9 also for a sender who is not on the sheet
 unfoldable pub attemptOf : Sheet → Record → Event → Said Try
 attemptOf s x e =
     let q = rulesOf s in
-    let rule = ruleFor q (e .stream) x (e .what) in
     check (validAlone s) 12
-    (check (onSheet q (e .stream) && (senderOn q (e .what) && legal q (e .stream) x)) 9
-    (gives (record { stream = e .stream; seen = x; wanted = rule .becomes; reply = rule .reply })))
+    (check (onSheet q (e .stream) && (senderOn q (e .what) && legal q (e .stream) x)) 9 (gives (tryOf q x e)))
 
 unfoldable pub workOf : Sheet → Record → Event → List Record → Left Try
 workOf s x e rs = leaving rs (attemptOf s x e)

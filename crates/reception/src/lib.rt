@@ -9,8 +9,9 @@ use sheet::Sheet;
 use stream::Rules;
 ghost use mathlib.Core.Path.{_≡_};
 ghost use Prim.Native.Nat.{_<_, _≤_};
-ghost use Rattle.reception.specs.Steps.{leaving, refusalSaid, attemptSaid, storedSaid};
-ghost use Rattle.reception.specs.Inner.{settledOf};
+ghost use Rattle.reception.specs.Record.{own};
+ghost use Rattle.reception.specs.Steps.{leaving, refusalSaid, seenSaid, attemptSaid, workedSaid, storedSaid};
+ghost use Rattle.reception.specs.Inner.{admittedSaid, admitted, ownSeen, triedOn, settledOf};
 ghost use Rattle.reception.specs.Promises.{all-free≡, read≡, work-out≡, store≡, count≡};
 
 // The most seats that a sheet has, and as many streams.
@@ -115,17 +116,31 @@ pub fn all_free() -> Streams
     [stream::free(); SEATS]
 }
 
-// The record of a stream, or 12 line 0 or 9.
-pub fn read(sheet: Sheet, records: Streams, stream: u8) -> Seen
-    ensures { λ r. ⌜ read≡ sheet records stream r ⌝ }
+// What a stream is judged by, if it is on the sheet.
+enum Admitted {
+    Under(Rules),
+    Refused(Refusal),
+}
+
+// What a stream is judged by, or 12 line 0, or 9 where it is not on the sheet.
+fn admit(sheet: Sheet, stream: u8) -> Admitted
+    ensures { λ r. ⌜ admittedSaid r ≡ admitted sheet stream ⌝ }
 {
     if !sheet::valid(sheet) {
-        return Seen::Refused(refusal(12));
+        return Admitted::Refused(refusal(12));
     }
     let rules = stream::rules_of(sheet);
     if !stream::is_on(rules, stream) {
-        return Seen::Refused(refusal(9));
+        return Admitted::Refused(refusal(9));
     }
+    Admitted::Under(rules)
+}
+
+// A stream's own record, or 9 where it is not legal.
+fn own_of(rules: Rules, records: Streams, stream: u8) -> Seen
+    requires { ⌜ (stream < 8) × (rules .seats ≤ 8) ⌝ }
+    ensures { λ r. ⌜ seenSaid r ≡ ownSeen rules stream (own records stream) ⌝ }
+{
     let own = records[stream as usize];
     if !stream::is_legal(rules, stream, own) {
         return Seen::Refused(refusal(9));
@@ -133,19 +148,23 @@ pub fn read(sheet: Sheet, records: Streams, stream: u8) -> Seen
     Seen::Read(own)
 }
 
-// What an event does to the record that was seen: an attempt to store, or 12 line 0 or 9.
-pub fn work_out(sheet: Sheet, seen: Record, event: Event) -> Worked
-    ensures { λ r. ⌜ work-out≡ sheet seen event r ⌝ }
+// The record of a stream, or 12 line 0 or 9.
+pub fn read(sheet: Sheet, records: Streams, stream: u8) -> Seen
+    ensures { λ r. ⌜ read≡ sheet records stream r ⌝ }
 {
-    if !sheet::valid(sheet) {
-        return Worked::Refused(refusal(12));
+    match admit(sheet, stream) {
+        Admitted::Under(rules) => own_of(rules, records, stream),
+        Admitted::Refused(refusal) => Seen::Refused(refusal),
     }
-    let rules = stream::rules_of(sheet);
+}
+
+// What an event makes of the record seen, or 9 where its sender is not on the sheet or the record is not legal.
+fn attempt_on(rules: Rules, seen: Record, event: Event) -> Worked
+    requires { ⌜ (event .stream < 8) × (rules .seats ≤ 8) ⌝ }
+    ensures { λ r. ⌜ workedSaid r ≡ triedOn rules seen event ⌝ }
+{
     let stream = event.stream;
     let what = event.what;
-    if !stream::is_on(rules, stream) {
-        return Worked::Refused(refusal(9));
-    }
     if !table::is_sender_on(rules, what) {
         return Worked::Refused(refusal(9));
     }
@@ -161,6 +180,16 @@ pub fn work_out(sheet: Sheet, seen: Record, event: Event) -> Worked
         wanted,
         answer,
     })
+}
+
+// What an event makes of the record that was seen: an attempt to store, or 12 line 0 or 9.
+pub fn work_out(sheet: Sheet, seen: Record, event: Event) -> Worked
+    ensures { λ r. ⌜ work-out≡ sheet seen event r ⌝ }
+{
+    match admit(sheet, event.stream) {
+        Admitted::Under(rules) => attempt_on(rules, seen, event),
+        Admitted::Refused(refusal) => Worked::Refused(refusal),
+    }
 }
 
 // The records as they were, and why.

@@ -1,62 +1,90 @@
 -- Laws of the checks that the steps have in common. Assumes nothing.
-use mathlib.Core.Path.{_≡_, sym, ap}
-use mathlib.Core.Bool.{Bool, true, false, _&&_}
+use mathlib.Core.Path.{_≡_, refl, sym, ap, _∙_}
+use mathlib.Core.Bool.{Bool, true, false, _&&_, and-assoc}
 use mathlib.Core.List.{List}
 use Prim.Native.Nat.{ℕ, _<_, _≤_}
 use lib.Dec.{T}
-use Rattle.octets.proofs.Choice.{T-true}
 use Rattle.sheet.specs.declared.Sheet.{Sheet}
 use Rattle.sheet.specs.Value.{validAlone}
 use Rattle.reception.specs.declared.Record.{Record}
+use Rattle.reception.specs.declared.Event.{Event}
 use Rattle.reception.specs.declared.Seen.{Seen}
 use Rattle.reception.specs.declared.stream.Rules.{Rules}
 use Rattle.reception.specs.Record.{rulesOf, onSheet, legal, own}
-use Rattle.reception.specs.Steps.{Said, gives, refuses, Left, leaving, check, Try, seenOf, readOf, replyOf, stored, storeOf, seenSaid}
-use Rattle.reception.specs.Inner.{settled, settledOf}
+use Rattle.reception.specs.Table.{senderOn}
+use Rattle.reception.specs.Steps.{Said, gives, refuses, Left, leaving, check, Try, seenOf, readOf, attemptOf, replyOf, stored, storeOf, seenSaid}
+use Rattle.reception.specs.Inner.{admitted, past, ownSeen, triedOn, settled, settledOf}
 use Rattle.reception.specs.Promises.{read≡}
-use Rattle.reception.proofs.Laws.Steps.{few, on-sheet-below, seen-gives}
+use Rattle.reception.proofs.Laws.Steps.{few, on-sheet-below, check-gives, gives-same, seen-gives}
 
--- a valid sheet has at most eight seats, and a stream on it is one of them
-pub seats-fit : (s : Sheet) (q : Rules) (stream : ℕ)
-    → q ≡ rulesOf s → T (validAlone s) → T (onSheet (rulesOf s) stream) → (stream < 8) × (q .seats ≤ 8)
-seats-fit s q stream e v t = rw e (on-sheet-below s stream v t, few s v)
+-- ---- a stream that is admitted
+
+pub record Admits (s : Sheet) (stream : ℕ) (q : Rules) : Type 0 where
+  pub fits : (stream < 8) × (q .seats ≤ 8)
+  pub same : rulesOf s ≡ q
+
+-- it is on a valid sheet, which has at most eight seats, and judged by that sheet's rules
+pub admitted-gives : (s : Sheet) (stream : ℕ) (q : Rules) → admitted s stream ≡ gives q → Admits s stream q
+unfolding admitted
+admitted-gives s stream q p =
+    let sheet = check-gives (validAlone s) 12 (check (onSheet (rulesOf s) stream) 9 (gives (rulesOf s))) q p in
+    let rest = check-gives (onSheet (rulesOf s) stream) 9 (gives (rulesOf s)) q (sheet .1) in
+    let same = gives-same (rest .1) in
+    record { fits = rw (← same) (on-sheet-below s stream (sheet .0) (rest .0), few s (sheet .0)); same = same }
+
+-- ---- checks behind others
+
+-- more to be checked for the same refusal is checked behind the others
+more-past : {A B : Type 0} (valid first more : Bool) (x : A) (next : Said B)
+    → check valid 12 (check (first && more) 9 next) ≡ past (check valid 12 (check first 9 (gives x))) (check more 9 next)
+more-past false first more x next = refl
+more-past true false more x next = refl
+more-past true true more x next = refl
+
+-- a read goes on where the stream is admitted
+pub seen-past : (s : Sheet) (stream : ℕ) (x : Record) → seenOf s stream x ≡ past (admitted s stream) (ownSeen (rulesOf s) stream x)
+unfolding seenOf admitted
+seen-past s stream x = more-past (validAlone s) (onSheet (rulesOf s) stream) (legal (rulesOf s) stream x) (rulesOf s) (gives x)
+
+-- and so does a working-out
+pub attempt-past : (s : Sheet) (x : Record) (e : Event) → attemptOf s x e ≡ past (admitted s (e .stream)) (triedOn (rulesOf s) x e)
+unfolding attemptOf admitted
+attempt-past s x e =
+    let q = rulesOf s in
+    more-past (validAlone s) (onSheet q (e .stream)) (senderOn q (e .what) && legal q (e .stream) x) q _
+
+-- a store goes on where a read gave the own record
+reply-past : (s : Sheet) (a : Try) (x : Record) → replyOf s a x ≡ past (seenOf s (a .stream) x) (settled (rulesOf s) a x)
+unfolding replyOf seenOf settled
+reply-past s a x =
+    let q = rulesOf s in
+    let good = legal q (a .stream) in
+    rw (← and-assoc) (more-past (validAlone s) (onSheet q (a .stream) && good x) (good (a .seen) && good (a .wanted)) x _)
+
+-- ---- a store after its own read
 
 -- what a read promises of its answer alone
 pub read-said : (s : Sheet) (rs : List Record) (stream : ℕ) (r : Seen) → read≡ s rs stream r → seenOf s stream (own rs stream) ≡ seenSaid r
 unfolding readOf
 read-said s rs stream r e = ap (λ (l : Left Record). l .said) (sym e)
 
--- ---- a store after its own read
+-- one that gave the own record: the stream is on a valid sheet ..
+pub seen-fits : (s : Sheet) (q : Rules) (stream : ℕ) (x y : Record)
+    → q ≡ rulesOf s → seenOf s stream x ≡ gives y → (stream < 8) × (q .seats ≤ 8)
+seen-fits s q stream x y e p =
+    let right = seen-gives s stream x y p in
+    rw e (on-sheet-below s stream (right .valid) (right .on), few s (right .valid))
 
--- one that gave the own record: the rest is settled
+-- .. and the rest is settled
 pub store-settled : (s : Sheet) (a : Try) (rs : List Record) (x : Record)
     → seenOf s (a .stream) (own rs (a .stream)) ≡ gives x → storeOf s a rs ≡ settledOf (rulesOf s) a x rs
-unfolding storeOf replyOf settledOf settled
+unfolding storeOf settledOf
 store-settled s a rs x e =
-    let q = rulesOf s in
     let right = seen-gives s (a .stream) (own rs (a .stream)) x e in
-    rw (
-      T-true (validAlone s) (right .valid),
-      T-true (onSheet q (a .stream)) (right .on),
-      T-true (legal q (a .stream) (own rs (a .stream))) (right .is-legal),
-      right .same,
-    )
-
--- more of the same checks, and others behind them, refuse what the fewer refuse
-more-refuse : {A B : Type 0} (valid on legal more : Bool) (x : A) (next : Said B) (number at : ℕ)
-    → check valid 12 (check (on && legal) 9 (gives x)) ≡ refuses number at
-    → check valid 12 (check (on && (legal && more)) 9 next) ≡ refuses number at
-more-refuse false on legal more x next number at e = cc
-more-refuse true false legal more x next number at e = cc
-more-refuse true true false more x next number at e = cc
-more-refuse true true true more x next number at e = cc
+    rw (reply-past s a (own rs (a .stream)), e, right .same)
 
 -- one that was refused: so is the store, and the records are as they were
 pub store-refused : (s : Sheet) (a : Try) (rs : List Record) (number at : ℕ)
     → seenOf s (a .stream) (own rs (a .stream)) ≡ refuses number at → storeOf s a rs ≡ leaving rs (refuses number at)
-unfolding storeOf replyOf stored seenOf
-store-refused s a rs number at e =
-    let q = rulesOf s in
-    let good = legal q (a .stream) in
-    let x = own rs (a .stream) in
-    rw (more-refuse (validAlone s) (onSheet q (a .stream)) (good x) (good (a .seen) && good (a .wanted)) x _ number at e)
+unfolding storeOf stored
+store-refused s a rs number at e = rw (reply-past s a (own rs (a .stream)), e)

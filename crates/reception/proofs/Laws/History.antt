@@ -22,14 +22,14 @@ use Rattle.reception.specs.declared.Record.{Record}
 use Rattle.reception.specs.declared.Event.{Event}
 use Rattle.reception.specs.Record.{rulesOf, onSheet, watches, free, count, legal, own, allFree}
 use Rattle.reception.specs.Answer.{Reply}
-use Rattle.reception.specs.Steps.{Said, gives, refuses, Try, seenOf, readOf, workOf, attemptOf, replyOf, stored, storeOf, counted, countOf}
+use Rattle.reception.specs.Steps.{Said, gives, refuses, Try, tryOf, seenOf, readOf, workOf, attemptOf, replyOf, stored, storeOf, counted, countOf}
 use Rattle.reception.specs.Table.{Answered}
 use Rattle.reception.specs.Schedule.{Step, reads, worksOut, stores, WorkedOut, State, after, ifTook, takenAt, start, run, taken}
 use Rattle.reception.specs.History.{ofStream, grantsAt, undoesAt, places, lasts, shown, shownCount}
 use Rattle.reception.specs.Claims.{CountFromHistory, CountTold}
 use Rattle.reception.proofs.Laws.Bits.{watches-none, ones-keep}
 use Rattle.reception.proofs.Laws.Records.{legal-below}
-use Rattle.reception.proofs.Laws.Steps.{few, on-sheet-below, tried, WorkRight, attempt-gives, reply-gives}
+use Rattle.reception.proofs.Laws.Steps.{few, on-sheet-below, WorkRight, attempt-gives, reply-gives}
 use Rattle.reception.proofs.Laws.Rules.{rule-legal, rule-bits}
 use Rattle.reception.proofs.Laws.Stores.{own-set, own-set-other, starts-legal, legal-own, stays-legal}
 use Rattle.reception.proofs.Laws.Serial.{serial-order}
@@ -107,11 +107,11 @@ tells-free = record { eight = length-replicate mostSeats free; each = λ k. rw o
 -- an event worked out on the record x
 module _ (s : Sheet) (x : Record) (e : Event) (a : Try) (w : WorkRight s x e a) where
   -- the events of the stream tell the record wanted, if those before told x
-  wanted-told : (ts : List Answered) → Told x ts → Told (tried s x e .wanted) (ts ++ (record { event = e; reply = tried s x e .reply } ∷ []))
+  wanted-told : (ts : List Answered) → Told x ts → Told (tryOf (rulesOf s) x e .wanted) (ts ++ (record { event = e; reply = tryOf (rulesOf s) x e .reply } ∷ []))
   unfolding mostSeats
   wanted-told ts h =
       let q = rulesOf s in
-      let l = legal-below q (e .stream) (tried s x e .wanted) (rule-legal q (e .stream) x (e .what) (w .is-legal) (w .sender)) in
+      let l = legal-below q (e .stream) (tryOf (rulesOf s) x e .wanted) (rule-legal q (e .stream) x (e .what) (w .is-legal) (w .sender)) in
       record {
         below = lt-of-lt-of-le l (pow-le-pow-right (omega arith) (few s (w .valid)));
         bits = λ r. rw (shown-snoc, ← h .bits r) (rule-bits q (e .stream) x (e .what) (w .is-legal) (w .sender) r);
@@ -119,7 +119,7 @@ module _ (s : Sheet) (x : Record) (e : Event) (a : Try) (w : WorkRight s x e a) 
 
   -- so all events tell the eight with the record wanted in its place, if x stood there
   wanted-tells : (rs : List Record) (ts : List Answered) → own rs (e .stream) ≡ x → Tells rs ts
-      → Tells (set rs (e .stream) (tried s x e .wanted)) (ts ++ (record { event = e; reply = tried s x e .reply } ∷ []))
+      → Tells (set rs (e .stream) (tryOf (rulesOf s) x e .wanted)) (ts ++ (record { event = e; reply = tryOf (rulesOf s) x e .reply } ∷ []))
   unfolding ofStream mostSeats
   wanted-tells rs ts seen h = record { eight = length-set rs i y ∙ h .eight; each = each }
     where
@@ -127,10 +127,10 @@ module _ (s : Sheet) (x : Record) (e : Event) (a : Try) (w : WorkRight s x e a) 
       i = e .stream
 
       y : Record
-      y = tried s x e .wanted
+      y = tryOf (rulesOf s) x e .wanted
 
       t : Answered
-      t = record { event = e; reply = tried s x e .reply }
+      t = record { event = e; reply = tryOf (rulesOf s) x e .reply }
 
       of : ℕ → Answered → Bool
       of k u = eqb (u .event .stream) k

@@ -1,5 +1,5 @@
 -- Laws of the event table: what each row does to a legal record, bit by bit. Assumes nothing.
-use mathlib.Core.Path.{_≡_, refl, ap}
+use mathlib.Core.Path.{_≡_, refl}
 use mathlib.Core.Logic.{_⊎_, inl, inr, ⊎-elim, _↔_}
 use mathlib.Core.Bool.{Bool, true, false, not, _&&_, _||_, and-true, and-false}
 use mathlib.Core.Option.{Option, none, some}
@@ -8,7 +8,7 @@ use native.Mathlib.Omega.{arith}
 use lib.Count.{ones}
 use lib.Dec.{T, eqb, leb, ltb→lt, leb→le, eqb→eq, eqb-refl}
 use borrow.Author.Tests.{lt-ltb, le-leb, leb-false, eqb-false, ne-eqb, not-true}
-use Rattle.octets.proofs.Choice.{T-true, true-T, T-and-left, T-and-right, false-T, or-false-both, pick-cases}
+use Rattle.octets.proofs.Choice.{T-true, T-and-left, T-and-right, false-T, or-false-both, pick-cases}
 use Rattle.octets.proofs.Places.{eqb-comm}
 use Rattle.reception.specs.declared.Phase.{Phase}
 use Rattle.reception.specs.declared.Phase.the-variants.{Free, Idle, Watched, Ending}

@@ -14,7 +14,7 @@ use Rattle.reception.specs.declared.Event.{Event}
 use Rattle.reception.specs.Record.{rulesOf, onSheet, sameRecord, legal}
 use Rattle.reception.specs.Answer.{Reply}
 use Rattle.reception.specs.Table.{senderOn, ruleFor}
-use Rattle.reception.specs.Steps.{Said, gives, check, Try, seenOf, attemptOf, replyOf}
+use Rattle.reception.specs.Steps.{Said, gives, check, Try, tryOf, seenOf, attemptOf, replyOf}
 use Rattle.reception.proofs.Laws.Records.{same-equal}
 
 -- ---- seats
@@ -31,12 +31,12 @@ on-sheet-below s r v t = omega (arith, few s v, ltb→lt r (s .seats) t)
 -- ---- a check that gave something
 
 -- it held, and what comes after it gave the same
-check-gives : {A : Type 0} (b : Bool) (number : ℕ) (next : Said A) (y : A) → check b number next ≡ gives y → T b × (next ≡ gives y)
+pub check-gives : {A : Type 0} (b : Bool) (number : ℕ) (next : Said A) (y : A) → check b number next ≡ gives y → T b × (next ≡ gives y)
 check-gives true number next y e = (tt, e)
 check-gives false number next y e = let z : _≡_ {A = ℕ} 0 1 = cc in absurd (omega arith)
 
 -- what is given is one
-gives-same : {A : Type 0} {x y : A} → gives x ≡ gives y → x ≡ y
+pub gives-same : {A : Type 0} {x y : A} → gives x ≡ gives y → x ≡ y
 gives-same e = cc
 
 -- ---- a read that gave a record
@@ -58,26 +58,20 @@ seen-gives s stream x y e =
 
 -- ---- a working-out that gave an attempt
 
--- the attempt of an event on a record
-abbrev pub tried : Sheet → Record → Event → Try
-tried s x e =
-    let rule = ruleFor (rulesOf s) (e .stream) x (e .what) in
-    record { stream = e .stream; seen = x; wanted = rule .becomes; reply = rule .reply }
-
 pub record WorkRight (s : Sheet) (x : Record) (e : Event) (a : Try) : Type 0 where
   pub valid : T (validAlone s)
   pub on : T (onSheet (rulesOf s) (e .stream))
   pub sender : T (senderOn (rulesOf s) (e .what))
   pub is-legal : T (legal (rulesOf s) (e .stream) x)
-  pub same : tried s x e ≡ a
+  pub same : tryOf (rulesOf s) x e ≡ a
 
 pub attempt-gives : (s : Sheet) (x : Record) (e : Event) (a : Try) → attemptOf s x e ≡ gives a → WorkRight s x e a
 unfolding attemptOf
 attempt-gives s x e a p =
     let q = rulesOf s in
     let right = onSheet q (e .stream) && (senderOn q (e .what) && legal q (e .stream) x) in
-    let sheet = check-gives (validAlone s) 12 (check right 9 (gives (tried s x e))) a p in
-    let rest = check-gives right 9 (gives (tried s x e)) a (sheet .1) in
+    let sheet = check-gives (validAlone s) 12 (check right 9 (gives (tryOf (rulesOf s) x e))) a p in
+    let rest = check-gives right 9 (gives (tryOf (rulesOf s) x e)) a (sheet .1) in
     search (T-and-left, T-and-right, gives-same)
 
 -- ---- a store that took

@@ -17,11 +17,11 @@ use Rattle.reception.specs.declared.Record.{Record}
 use Rattle.reception.specs.Record.{rulesOf, onSheet, free, sameRecord, legalIn, legal, own}
 use Rattle.reception.specs.Answer.{Reply}
 use Rattle.reception.specs.Table.{senderOn}
-use Rattle.reception.specs.Steps.{Said, gives, refuses, check, Try, seenOf, readOf, attemptOf, workOf, replyOf, stored, storeOf}
+use Rattle.reception.specs.Steps.{Said, gives, refuses, check, Try, tryOf, seenOf, readOf, attemptOf, workOf, replyOf, stored, storeOf}
 use Rattle.reception.specs.Schedule.{Step, reads, worksOut, stores, State, after, start, run}
 use Rattle.reception.specs.Claims.{Legal, StartsLegal, ReadRule, WorkRule, Storable, StoreRule, RefusedKeeps, StaysLegal, Undisturbed}
 use Rattle.reception.proofs.Laws.Records.{equal-same, other-same}
-use Rattle.reception.proofs.Laws.Steps.{on-sheet-below, tried, reply-gives}
+use Rattle.reception.proofs.Laws.Steps.{on-sheet-below, reply-gives}
 use Rattle.reception.proofs.Laws.Rules.{rule-legal}
 
 -- ---- the records after one was set
@@ -162,7 +162,7 @@ unfolding attemptOf storeOf stored
 undisturbed s rs e v h on sender =
     let q = rulesOf s in
     let x = own rs (e .stream) in
-    let a = tried s x e in
+    let a = tryOf (rulesOf s) x e in
     let l = legal-own s rs (e .stream) v on h in
     let storable : Storable s a rs =
     record {

@@ -4,8 +4,7 @@ use mathlib.Core.Path.{_≡_, sym, ap, _∙_}
 use borrow.Author.Needs.{needs}
 use Rattle.reception.specs.Record.{own}
 use Rattle.reception.specs.Steps.{seenOf, seenSaid, attemptSaid}
-use Rattle.reception.proofs.Laws.Steps.{seen-gives}
-use Rattle.reception.proofs.Laws.Checks.{seats-fit, read-said, store-settled, store-refused}
+use Rattle.reception.proofs.Laws.Checks.{read-said, seen-fits, store-settled, store-refused}
 use Rattle.reception.proofs.store.Statement.{statement}
 use Rattle.reception.proofs.store.Tie as tie
 
@@ -28,8 +27,7 @@ settle-requires : tie.Need-settle-requires
 settle-requires c κs =
     let read = c .before .before .before .before in
     let a = read .before .args in
-    let right = seen-gives _ _ _ _ (said read ∙ ap seenSaid (c .before .before .own .given .1)) in
-    seats-fit (a .sheet) _ (a .attempt .stream) (c .rules-of .ensures) (right .valid) (right .on)
+    seen-fits (a .sheet) _ (a .attempt .stream) _ _ (c .rules-of .ensures) (said read ∙ ap seenSaid (c .before .before .own .given .1))
 
 enum-known-refusal : tie.Need-enum-known-refusal
 enum-known-refusal c = search needs
