@@ -13,7 +13,7 @@ use Rattle.reception.specs.declared.Record.{Record}
 use Rattle.reception.specs.declared.Event.{Event}
 use Rattle.reception.specs.Record.{rulesOf, onSheet, sameRecord, legal}
 use Rattle.reception.specs.Answer.{Reply}
-use Rattle.reception.specs.Table.{senderOn, ruleFor}
+use Rattle.reception.specs.Table.{senderOn}
 use Rattle.reception.specs.Steps.{Said, gives, check, Try, tryOf, seenOf, attemptOf, replyOf}
 use Rattle.reception.proofs.Laws.Records.{same-equal}
 
