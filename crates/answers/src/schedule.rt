@@ -1,5 +1,6 @@
 // Two routines that read, work out and store, one step after another. Questions 9 to 12; how it all stands among octets: stream.rt.
 use super::number;
+use super::question;
 use super::stream;
 use super::stream::Said;
 use super::value;
@@ -64,7 +65,7 @@ pub fn attempts(body: &[u8], out: &mut [u8]) -> usize
     ensures { λ r. ⌜ r ≤ 1020 ⌝ }
 {
     let sheet = value::sheet_in(body);
-    let n = items(body, value::ROWS, SEEN_EVENT, 72);
+    let n = items(body, value::ROWS, SEEN_EVENT, question::MOST / stream::SAID);
     let mut k = 0;
     while k < n {
         let at = value::ROWS + k * SEEN_EVENT;
@@ -79,7 +80,7 @@ pub fn attempts(body: &[u8], out: &mut [u8]) -> usize
 
 // ---- one step
 
-// What stands there before the first step: every record at zeros, Free.
+// Before the first step: the case's eight records; each routine holds a Free record and an attempt that changes nothing.
 fn first_memory(body: &[u8]) -> Memory {
     let records = stream::records_in(body, value::ROWS);
     let seen = stream::record_in(&[], 0);
@@ -96,7 +97,7 @@ fn first_memory(body: &[u8]) -> Memory {
         records,
         packet: slot,
         timer: slot,
-        said: [0; 14],
+        said: [0; stream::SAID],
     }
 }
 
@@ -205,7 +206,7 @@ pub fn steps(body: &[u8], out: &mut [u8]) -> usize
 {
     let sheet = value::sheet_in(body);
     let mut memory = first_memory(body);
-    let n = items(body, START, STEP, 34);
+    let n = items(body, START, STEP, question::MOST / STEP_SAID);
     let mut k = 0;
     while k < n {
         let put = k * STEP_SAID;
@@ -262,7 +263,7 @@ pub fn schedules(body: &[u8], out: &mut [u8]) -> usize
 {
     let sheet = value::sheet_in(body);
     let memory = first_memory(body);
-    let n = items(body, START, SCHEDULE, 14);
+    let n = items(body, START, SCHEDULE, question::MOST / SCHEDULE_SAID);
     let mut k = 0;
     while k < n {
         play(
@@ -303,7 +304,7 @@ pub fn stores_of_any(body: &[u8], out: &mut [u8]) -> usize
 {
     let sheet = value::sheet_in(body);
     let start = first_memory(body);
-    let n = items(body, START, ATTEMPT, 34);
+    let n = items(body, START, ATTEMPT, question::MOST / STEP_SAID);
     let mut k = 0;
     while k < n {
         let memory = stores(sheet, with_attempt(start, body, START + k * ATTEMPT), 0);

@@ -1,14 +1,16 @@
 -- What an event is answered with (document 01, "Stream record"): what was done, the message that goes out, and, apart from that, the
 -- timers. Assumes nothing.
 use Prim.Native.Nat.{ℕ}
+use mathlib.Core.Bool.{Bool}
 use mathlib.Core.List.{List, [], _∷_}
 use mathlib.Core.Option.{Option, none, some}
+use lib.Dec.{eqb}
 use Rattle.reception.specs.declared.Answer.{Answer}
 use Rattle.reception.specs.declared.Answer.the-variants.{GrantedFirst, Granted, GrantedAgain, Rejected, Ended, EndedLast, Opened, EndRequested, Freed, FreedWithAck, ReleasedIdle, ReleasedWatched, ReleasedEnding, Discarded}
 
 -- ---- the parts of an answer
 
--- what was done: message and timers alone do not tell an end response that frees from a release, nor a release from an event that is discarded
+-- what was done: message and timers alone do not tell an end response that frees from a release, nor a release from a discarded event
 pub data Done : Type 0 where
   granted : Done
   rejected : Done
@@ -18,6 +20,20 @@ pub data Done : Type 0 where
   freed : Done
   released : Done
   discarded : Done
+
+-- its number, and whether it was that which was done
+abbrev pub doneNumber : Done → ℕ
+doneNumber granted = 1
+doneNumber rejected = 2
+doneNumber ended = 3
+doneNumber endRequested = 4
+doneNumber freed = 5
+doneNumber opened = 6
+doneNumber released = 7
+doneNumber discarded = 8
+
+abbrev pub was : Done → Done → Bool
+was d done = eqb (doneNumber done) (doneNumber d)
 
 -- a message that goes out: its kind, and Result and cause where it has them
 pub record Sent : Type 0 where
@@ -41,6 +57,9 @@ pub record Reply : Type 0 where
   pub sends : Option Sent
   pub timers : Timers
 
+abbrev pub reply : Done → Option Sent → Timers → Reply
+reply done sends timers = record { done = done; sends = sends; timers = timers }
+
 -- ---- messages, by their kinds
 
 -- kind 2, a Receive media response
@@ -58,7 +77,7 @@ endResponse = some (record { kind = 4; result = none; cause = none })
 abbrev pub endRequest : ℕ → Option Sent
 endRequest c = some (record { kind = 5; result = none; cause = some c })
 
--- kind 7, a Transmission control Ack
+-- kind 7, a Transmission control Ack; its Source and Message Type are the controller's to write
 abbrev pub ack : Option Sent
 ack = some (record { kind = 7; result = none; cause = none })
 
@@ -123,4 +142,4 @@ timersOf ReleasedEnding = timers (T3 ∷ []) []
 timersOf Discarded = untouched
 
 abbrev pub answerSaid : Answer → Reply
-answerSaid a = record { done = doneBy a; sends = messageOf a; timers = timersOf a }
+answerSaid a = reply (doneBy a) (messageOf a) (timersOf a)

@@ -1,13 +1,13 @@
--- What is claimed of reception beyond its functions. Each has its proof under proofs/. Assumes nothing.
+-- What is claimed of reception beyond its functions. Each has its proof under proofs/. Demand 3 assumes what Schedule.antt assumes.
 use mathlib.Core.Path.{_≡_}
 use mathlib.Core.Logic.{_↔_}
 use Prim.Native.Nat.{ℕ, _^_, _<_}
-use mathlib.Core.Bool.{false, not, _&&_, _||_}
+use mathlib.Core.Bool.{not, _&&_, _||_}
 use mathlib.Core.List.{List, map}
 use mathlib.Core.Option.{none}
 use lib.ListN.{length}
 use lib.Dec.{T, eqb, ltb}
-use Rattle.octets.specs.Choice.{pick, All}
+use Rattle.octets.specs.Choice.{All}
 use Rattle.sheet.specs.declared.Sheet.{Sheet}
 use Rattle.sheet.specs.Table.{mostSeats}
 use Rattle.sheet.specs.Value.{validAlone}
@@ -16,7 +16,7 @@ use Rattle.reception.specs.declared.Record.{Record}
 use Rattle.reception.specs.declared.Event.{Event}
 use Rattle.reception.specs.declared.What.{What}
 use Rattle.reception.specs.declared.stream.Rules.{Rules}
-use Rattle.reception.specs.Record.{rulesOf, onSheet, watches, setBit, clearBit, free, count, is, sameRecord, legal, own, allFree}
+use Rattle.reception.specs.Record.{rulesOf, onSheet, watches, setBit, clearBit, count, sameRecord, legal, own, legalAt, allFree}
 use Rattle.reception.specs.Answer.{Reply, granted, discarded, grant, untouched}
 use Rattle.reception.specs.Table.{ruleFor, senderOn, Answered}
 use Rattle.reception.specs.Steps.{gives, refuses, leaving, Try, readOf, attemptOf, workOf, storeOf, countOf}
@@ -44,7 +44,7 @@ SameExactly = (x y : Record) → T (sameRecord x y) ↔ (x ≡ y)
 -- Eight records are legal if each seat on the sheet has a legal one and every other is Free.
 pub record Legal (s : Sheet) (rs : List Record) : Type 0 where
   pub eight : length rs ≡ mostSeats
-  pub each : (k : ℕ) → k < mostSeats → T (pick (onSheet (rulesOf s) k) (legal (rulesOf s) k (own rs k)) (sameRecord (own rs k) free))
+  pub each : (k : ℕ) → k < mostSeats → T (legalAt (rulesOf s) rs k)
 
 -- So are those of streams that are all free.
 abbrev pub StartsLegal : Type 0
@@ -113,8 +113,8 @@ RefusedKeeps = (s : Sheet) (a : Try) (rs : List Record) (number at : ℕ) → st
 abbrev pub StaysLegal : Type 0
 StaysLegal = (s : Sheet) (rs : List Record) (steps : List Step) → Legal s rs → Legal s (run s steps (start rs) .records)
 
--- ---- demand 3: "Two routines that read, work out and store in any order, with stale and repeated attempts, leave the records and answers of
--- the taken events run one after another; and a stream's count is what the history of its taken events says."
+-- ---- demand 3, the firmware engineer's: two routines that read, work out and store in any order, with stale and repeated attempts, leave the
+-- records and answers of the taken events run one after another; and a stream's count is what the history of its taken events says
 
 -- Undisturbed, an event on the sheet is worked out from the record as it is, its store takes, and both do what the table says.
 abbrev pub Undisturbed : Type 0
@@ -155,4 +155,4 @@ NoAccident =
     (s : Sheet) (rs : List Record) (before : List Step) (by : Routine) (a : Try) (e : Event) (reply : Reply)
     → All (WorkedOut s) before → WorkedOut s (stores by a e)
     → storeOf s a (run s before (start rs) .records) .said ≡ gives reply → reply .sends ≡ grant
-    → (own (run s before (start rs) .records) (a .stream) ≡ a .seen) × (is Ending (own (run s before (start rs) .records) (a .stream)) ≡ false)
+    → (own (run s before (start rs) .records) (a .stream) ≡ a .seen) × (own (run s before (start rs) .records) (a .stream) .phase ≡ Ending → ⊥)

@@ -10,7 +10,7 @@ use Rattle.octets.specs.Choice.{some-of, keep}
 use Rattle.sheet.specs.Table.{mostSeats}
 use Rattle.reception.specs.declared.What.{What}
 use Rattle.reception.specs.declared.What.the-variants.{Request, End, Open, T11, EndResponse, Release}
-use Rattle.reception.specs.Answer.{Done, granted, rejected, ended, opened, endRequested, freed, released, discarded}
+use Rattle.reception.specs.Answer.{Done, granted, opened, was}
 use Rattle.reception.specs.Table.{Answered}
 
 -- the events of one stream
@@ -19,29 +19,9 @@ ofStream s ts = keep (λ (t : Answered). eqb (t .event .stream) s) ts
 
 -- ---- what one event with its answer says of a seat
 
-abbrev pub wasGranted : Done → Bool
-wasGranted granted = true
-wasGranted rejected = false
-wasGranted ended = false
-wasGranted opened = false
-wasGranted endRequested = false
-wasGranted freed = false
-wasGranted released = false
-wasGranted discarded = false
-
-abbrev pub hasOpened : Done → Bool
-hasOpened granted = false
-hasOpened rejected = false
-hasOpened ended = false
-hasOpened opened = true
-hasOpened endRequested = false
-hasOpened freed = false
-hasOpened released = false
-hasOpened discarded = false
-
 -- seat r asked and was granted
 abbrev pub grants : ℕ → What → Done → Bool
-grants r (Request by) done = eqb by r && wasGranted done
+grants r (Request by) done = eqb by r && was granted done
 grants r (End by) done = false
 grants r Open done = false
 grants r T11 done = false
@@ -52,7 +32,7 @@ grants r Release done = false
 abbrev pub undoes : ℕ → What → Done → Bool
 undoes r (Request by) done = false
 undoes r (End by) done = eqb by r
-undoes r Open done = hasOpened done
+undoes r Open done = was opened done
 undoes r T11 done = false
 undoes r (EndResponse asked) done = false
 undoes r Release done = true

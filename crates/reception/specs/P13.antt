@@ -2,7 +2,7 @@
 -- Ending; read and worked out again, reject cause 1". Assumes nothing.
 use mathlib.Core.Path.{_≡_}
 use mathlib.Core.List.{List, [], _∷_, _++_}
-use mathlib.Core.Option.{Option, some}
+use mathlib.Core.Option.{some}
 use lib.ListN.{replicate}
 use Rattle.octets.specs.Choice.{All}
 use Rattle.sheet.specs.declared.Sheet.{Sheet}
@@ -10,7 +10,7 @@ use Rattle.reception.specs.declared.Record.{Record}
 use Rattle.reception.specs.declared.Event.{Event}
 use Rattle.reception.specs.declared.What.the-variants.{Request, T11 as T11Expired}
 use Rattle.reception.specs.Record.{rulesOf, free, idle, watched, ending}
-use Rattle.reception.specs.Answer.{Reply, Done, granted, rejected, endRequested, Sent, T3, T5, T6, T11, Timers, grant, rejection, endRequest, timers, untouched}
+use Rattle.reception.specs.Answer.{Reply, reply, granted, rejected, endRequested, T3, T5, T6, T11, grant, rejection, endRequest, timers, untouched}
 use Rattle.reception.specs.Table.{Answered}
 use Rattle.reception.specs.Steps.{leaving, refuses, Try, storeOf}
 use Rattle.reception.specs.Schedule.{Step, reads, worksOut, stores, packetRoutine, timerRoutine, WorkedOut, State, start, run, taken}
@@ -44,9 +44,6 @@ requestBy1 = record { stream = 0; what = Request 1 }
 
 abbrev pub t11 : Event
 t11 = record { stream = 0; what = T11Expired }
-
-abbrev pub reply : Done → Option Sent → Timers → Reply
-reply done sends timers = record { done = done; sends = sends; timers = timers }
 
 abbrev pub rejection1 : Reply
 rejection1 = reply rejected (rejection 1) untouched

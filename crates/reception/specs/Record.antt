@@ -97,6 +97,10 @@ legal q s x = legalIn (x .phase) q s x
 abbrev pub own : List Record → ℕ → Record
 own rs s = getD rs s free
 
+-- a seat on the sheet has a legal one, and every other is Free
+abbrev pub legalAt : Rules → List Record → ℕ → Bool
+legalAt q rs k = pick (onSheet q k) (legal q k (own rs k)) (sameRecord (own rs k) free)
+
 -- all streams free
 abbrev pub allFree : List Record
 allFree = replicate mostSeats free

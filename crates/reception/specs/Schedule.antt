@@ -1,6 +1,6 @@
--- Two routines that read, work out and store in any order (document 01, "Three steps": "A read and a store each run whole, with no read or
--- store of the other routine inside"). Every step is threaded through the eight records by the definition that its function's own
--- statement cites. Assumes nothing.
+-- Two routines that read, work out and store in any order (document 01, "Three steps"). Every step is threaded through the eight records by the
+-- definition that its function's own statement cites. Assumes: "A read and a store each run whole, with no read or store of the other
+-- routine inside; the firmware sees to that".
 use mathlib.Core.Path.{_≡_}
 use Prim.Native.Nat.{ℕ}
 use mathlib.Core.Bool.{Bool, true, false, _&&_}

@@ -1,6 +1,7 @@
 -- The event table (document 01, "Stream record"), a definition for each row, in its order and words. Its sources: document 002, 6.3.6.3.6 and
--- 6.3.6.4.3 (request), 6.3.6.4.4 (end), 6.3.6.3.9 and 6.3.6.4.12 (T11), 6.3.4.4.13 (cause 8); document 004 (causes 0 and 1). House: the
--- repeated request that is not counted twice. Assumes nothing.
+-- 6.3.6.4.3 (request), 6.3.6.4.4 (end), 6.3.6.3.3 and 6.3.6.4.10 (open), 6.3.6.3.9 and 6.3.6.4.12 (T11), 6.3.4.4.13 (cause 8), 6.3.5.6.8 (end
+-- response), 6.3.6.3.8 and 6.3.6.4.11 (release); document 004 (causes 0 and 1). House: the repeated request that is not counted twice.
+-- T4 and T6 differ from 002: docs/DECISIONS.md, 48. Assumes nothing.
 use Prim.Native.Nat.{ℕ}
 use mathlib.Core.Bool.{Bool, true, _||_}
 use mathlib.Core.List.{[], _∷_}
@@ -14,7 +15,7 @@ use Rattle.reception.specs.declared.What.{What}
 use Rattle.reception.specs.declared.What.the-variants.{Request, End, Open, T11 as T11Expired, EndResponse, Release}
 use Rattle.reception.specs.declared.stream.Rules.{Rules}
 use Rattle.reception.specs.Record.{onSheet, watches, setBit, clearBit, free, idle, watched, ending, count, is}
-use Rattle.reception.specs.Answer.{Done, granted, rejected, ended, opened, endRequested, freed, released, discarded, Sent, T3, T5, T6, T11, Timers, Reply, grant, rejection, endResponse, endRequest, ack, timers, untouched}
+use Rattle.reception.specs.Answer.{Done, granted, rejected, ended, opened, endRequested, freed, released, discarded, Sent, T3, T5, T6, T11, Timers, Reply, reply, grant, rejection, endResponse, endRequest, ack, timers, untouched}
 
 -- ---- what a row says
 
@@ -34,7 +35,7 @@ pub record Ruling : Type 0 where
   pub reply : Reply
 
 abbrev pub ruling : Record → Done → Option Sent → Timers → Ruling
-ruling x done sends timers = record { becomes = x; reply = record { done = done; sends = sends; timers = timers } }
+ruling x done sends timers = record { becomes = x; reply = reply done sends timers }
 
 -- "Discarded: record kept, no message, no timer"
 abbrev pub discard : Record → Ruling
@@ -45,16 +46,20 @@ reject x cause = ruling x rejected (rejection cause) untouched
 
 -- ---- the rows
 
--- "request by r": "first that holds: r is s, reject cause 1; Free or Ending, reject cause 1; bit set, grant, no change; limit reached,
--- reject cause 0; else set the bit, Watched, grant, stop T5, stop T11 if it was Idle, start T6"
+-- "bit set, grant, no change; limit reached, reject cause 0; else set the bit, Watched" and this answer
+unfoldable pub joined : Rules → Record → ℕ → Reply → Ruling
+joined q x r answer =
+    let b = x .receivers in
+    pick (watches b r) (ruling x granted grant untouched)
+    (pick (leb (q .limit) (count x)) (reject x insufficientDownlinkBandwidth) (record { becomes = watched (setBit b r); reply = answer }))
+
+-- "request by r": "first that holds: r is s, reject cause 1; Free or Ending, reject cause 1", then the above; the answer is "grant, stop T5,
+-- stop T11 if it was Idle, start T6"
 unfoldable pub onRequest : Rules → ℕ → Record → ℕ → Ruling
 onRequest q s x r =
-    let b = x .receivers in
     pick (eqb r s) (reject x noPermissionToReceive)
     (pick (is Free x || is Ending x) (reject x noPermissionToReceive)
-    (pick (watches b r) (ruling x granted grant untouched)
-    (pick (leb (q .limit) (count x)) (reject x insufficientDownlinkBandwidth)
-    (ruling (watched (setBit b r)) granted grant (timers (T5 ∷ pick (is Idle x) (T11 ∷ []) []) (T6 ∷ []))))))
+    (joined q x r (reply granted grant (timers (T5 ∷ pick (is Idle x) (T11 ∷ []) []) (T6 ∷ [])))))
 
 -- what a cleared bit leaves: "if then none is left, Idle and start T11"
 unfoldable pub afterClearing : ℕ → Ruling

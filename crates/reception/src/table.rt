@@ -9,9 +9,10 @@ use super::stream::Rules;
 ghost use mathlib.Core.Path.{_≡_};
 ghost use Prim.Native.Nat.{_<_, _≤_};
 ghost use lib.Dec.{T};
+ghost use Rattle.reception.specs.Record.{ending};
 ghost use Rattle.reception.specs.Answer.{answerSaid};
-ghost use Rattle.reception.specs.Table.{onRequest, onEnd, onOpen, onT11, onEndResponse, onRelease, ruleFor, senderOn};
-ghost use Rattle.reception.specs.Inner.{changeSaid, joined, freedReply};
+ghost use Rattle.reception.specs.Table.{joined, onRequest, onEnd, onOpen, onT11, onEndResponse, onRelease, ruleFor, senderOn};
+ghost use Rattle.reception.specs.Inner.{changeSaid};
 
 // The causes, by the sources' names (documents 004 and 002).
 const INSUFFICIENT_DOWNLINK_BANDWIDTH: u16 = 0;
@@ -26,7 +27,7 @@ pub struct Change {
     pub answer: Answer,
 }
 
-fn answered(becomes: Record, answer: Answer) -> Change
+fn with_answer(becomes: Record, answer: Answer) -> Change
     ensures { λ r. ⌜ (r .becomes ≡ becomes) × (r .answer ≡ answer) ⌝ }
 {
     Change { becomes, answer }
@@ -39,12 +40,12 @@ fn join(rules: Rules, own: Record, by: u8, granted: Answer) -> Change
 {
     let byte = own.receivers;
     if receivers::has(byte, by) {
-        return answered(own, Answer::GrantedAgain);
+        return with_answer(own, Answer::GrantedAgain);
     }
     if rules.limit <= stream::count_of(own) {
-        return answered(own, Answer::Rejected(INSUFFICIENT_DOWNLINK_BANDWIDTH));
+        return with_answer(own, Answer::Rejected(INSUFFICIENT_DOWNLINK_BANDWIDTH));
     }
-    answered(stream::watched(receivers::with(byte, by)), granted)
+    with_answer(stream::watched(receivers::with(byte, by)), granted)
 }
 
 // "request by r".
@@ -53,14 +54,14 @@ fn request(rules: Rules, stream: u8, own: Record, by: u8) -> Change
     ensures { λ r. ⌜ changeSaid r ≡ onRequest rules stream own by ⌝ }
 {
     if by == stream {
-        return answered(own, Answer::Rejected(NO_PERMISSION_TO_RECEIVE));
+        return with_answer(own, Answer::Rejected(NO_PERMISSION_TO_RECEIVE));
     }
     let phase = own.phase;
     match phase {
-        Phase::Free => answered(own, Answer::Rejected(NO_PERMISSION_TO_RECEIVE)),
+        Phase::Free => with_answer(own, Answer::Rejected(NO_PERMISSION_TO_RECEIVE)),
         Phase::Idle => join(rules, own, by, Answer::GrantedFirst),
         Phase::Watched => join(rules, own, by, Answer::Granted),
-        Phase::Ending => answered(own, Answer::Rejected(NO_PERMISSION_TO_RECEIVE)),
+        Phase::Ending => with_answer(own, Answer::Rejected(NO_PERMISSION_TO_RECEIVE)),
     }
 }
 
@@ -71,13 +72,13 @@ fn end(own: Record, by: u8) -> Change
 {
     let byte = own.receivers;
     if !receivers::has(byte, by) {
-        return answered(own, Answer::Ended);
+        return with_answer(own, Answer::Ended);
     }
     let left = receivers::without(byte, by);
     if left == 0 {
-        return answered(stream::idle(), Answer::EndedLast);
+        return with_answer(stream::idle(), Answer::EndedLast);
     }
-    answered(stream::watched(left), Answer::Ended)
+    with_answer(stream::watched(left), Answer::Ended)
 }
 
 // "open".
@@ -86,10 +87,10 @@ fn open(own: Record) -> Change
 {
     let phase = own.phase;
     match phase {
-        Phase::Free => answered(stream::idle(), Answer::Opened),
-        Phase::Idle => answered(own, Answer::Discarded),
-        Phase::Watched => answered(own, Answer::Discarded),
-        Phase::Ending => answered(own, Answer::Discarded),
+        Phase::Free => with_answer(stream::idle(), Answer::Opened),
+        Phase::Idle => with_answer(own, Answer::Discarded),
+        Phase::Watched => with_answer(own, Answer::Discarded),
+        Phase::Ending => with_answer(own, Answer::Discarded),
     }
 }
 
@@ -97,21 +98,19 @@ fn open(own: Record) -> Change
 fn t11(own: Record) -> Change
     ensures { λ r. ⌜ changeSaid r ≡ onT11 own ⌝ }
 {
+    let ending = stream::ending();
     let phase = own.phase;
     match phase {
-        Phase::Free => answered(own, Answer::Discarded),
-        Phase::Idle => answered(
-            stream::ending(),
-            Answer::EndRequested(NO_RECEIVING_PARTICIPANT),
-        ),
-        Phase::Watched => answered(own, Answer::Discarded), // T11 ran out late
-        Phase::Ending => answered(own, Answer::Discarded),
+        Phase::Free => with_answer(own, Answer::Discarded),
+        Phase::Idle => with_answer(ending, Answer::EndRequested(NO_RECEIVING_PARTICIPANT)),
+        Phase::Watched => with_answer(own, Answer::Discarded), // T11 ran out late
+        Phase::Ending => with_answer(own, Answer::Discarded),
     }
 }
 
 // The answer to an end response that frees the stream.
 fn freed(ack: bool) -> Answer
-    ensures { λ r. ⌜ answerSaid r ≡ freedReply ack ⌝ }
+    ensures { λ r. ⌜ answerSaid r ≡ onEndResponse ending ack .reply ⌝ }
 {
     if ack {
         return Answer::FreedWithAck;
@@ -125,10 +124,10 @@ fn end_response(own: Record, ack: bool) -> Change
 {
     let phase = own.phase;
     match phase {
-        Phase::Free => answered(own, Answer::Discarded),
-        Phase::Idle => answered(own, Answer::Discarded),
-        Phase::Watched => answered(own, Answer::Discarded),
-        Phase::Ending => answered(stream::free(), freed(ack)),
+        Phase::Free => with_answer(own, Answer::Discarded),
+        Phase::Idle => with_answer(own, Answer::Discarded),
+        Phase::Watched => with_answer(own, Answer::Discarded),
+        Phase::Ending => with_answer(stream::free(), freed(ack)),
     }
 }
 
@@ -138,10 +137,10 @@ fn release(own: Record) -> Change
 {
     let phase = own.phase;
     match phase {
-        Phase::Free => answered(own, Answer::Discarded),
-        Phase::Idle => answered(stream::free(), Answer::ReleasedIdle),
-        Phase::Watched => answered(stream::free(), Answer::ReleasedWatched),
-        Phase::Ending => answered(stream::free(), Answer::ReleasedEnding),
+        Phase::Free => with_answer(own, Answer::Discarded),
+        Phase::Idle => with_answer(stream::free(), Answer::ReleasedIdle),
+        Phase::Watched => with_answer(stream::free(), Answer::ReleasedWatched),
+        Phase::Ending => with_answer(stream::free(), Answer::ReleasedEnding),
     }
 }
 

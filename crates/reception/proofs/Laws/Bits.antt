@@ -143,7 +143,7 @@ pub clear-takes : (b r : ℕ) → T (watches b r) → clearBit b r ≡ b - 2 ^ r
 unfolding clearBit
 clear-takes b r t = rw (T-true (watches b r) t)
 
--- one bit less
+-- to clear a bit makes no number greater
 pub clear-le : (b r : ℕ) → clearBit b r ≤ b
 unfolding clearBit
 clear-le b r = pick-cases (λ x. x ≤ b) (watches b r) (b - 2 ^ r) b (λ t. omega arith) (λ e. omega arith)

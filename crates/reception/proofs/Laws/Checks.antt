@@ -1,5 +1,5 @@
 -- Laws of the checks that the steps have in common. Assumes nothing.
-use mathlib.Core.Path.{_≡_, refl, sym, ap}
+use mathlib.Core.Path.{_≡_, refl, sym, ap, _∙_}
 use mathlib.Core.Bool.{Bool, true, false, _&&_, and-assoc}
 use mathlib.Core.List.{List}
 use Prim.Native.Nat.{ℕ, _<_, _≤_}
@@ -7,14 +7,16 @@ use Rattle.sheet.specs.declared.Sheet.{Sheet}
 use Rattle.sheet.specs.Value.{validAlone}
 use Rattle.reception.specs.declared.Record.{Record}
 use Rattle.reception.specs.declared.Event.{Event}
+use Rattle.reception.specs.declared.Admitted.{Admitted}
+use Rattle.reception.specs.declared.Admitted.the-variants.{Under}
 use Rattle.reception.specs.declared.Seen.{Seen}
 use Rattle.reception.specs.declared.stream.Rules.{Rules}
 use Rattle.reception.specs.Record.{rulesOf, onSheet, legal, own}
 use Rattle.reception.specs.Table.{senderOn}
 use Rattle.reception.specs.Steps.{Said, gives, refuses, Left, leaving, check, Try, seenOf, readOf, attemptOf, replyOf, stored, storeOf, seenSaid}
-use Rattle.reception.specs.Inner.{admitted, past, ownSeen, triedOn, settled, settledOf}
+use Rattle.reception.specs.Inner.{admitted, admittedSaid, past, ownSeen, triedOn, settled, settledOf}
 use Rattle.reception.specs.Promises.{read≡}
-use Rattle.reception.proofs.Laws.Steps.{few, on-sheet-below, check-gives, gives-same, seen-gives}
+use Rattle.reception.proofs.Laws.Steps.{seats-le-8, on-sheet-below, check-gives, gives-same, seen-gives}
 
 -- ---- a stream that is admitted
 
@@ -23,13 +25,17 @@ pub record Admits (s : Sheet) (stream : ℕ) (q : Rules) : Type 0 where
   pub same : rulesOf s ≡ q
 
 -- it is on a valid sheet, which has at most eight seats, and judged by that sheet's rules
-pub admitted-gives : (s : Sheet) (stream : ℕ) (q : Rules) → admitted s stream ≡ gives q → Admits s stream q
+admitted-gives : (s : Sheet) (stream : ℕ) (q : Rules) → admitted s stream ≡ gives q → Admits s stream q
 unfolding admitted
 admitted-gives s stream q p =
     let sheet = check-gives (validAlone s) 12 (check (onSheet (rulesOf s) stream) 9 (gives (rulesOf s))) q p in
     let rest = check-gives (onSheet (rulesOf s) stream) 9 (gives (rulesOf s)) q (sheet .1) in
     let same = gives-same (rest .1) in
-    record { fits = rw (← same) (on-sheet-below s stream (sheet .0) (rest .0), few s (sheet .0)); same = same }
+    record { fits = rw (← same) (on-sheet-below s stream (sheet .0) (rest .0), seats-le-8 s (sheet .0)); same = same }
+
+-- so it is where the code says by which rules
+pub under-admits : (s : Sheet) (stream : ℕ) (r : Admitted) (q : Rules) → admittedSaid r ≡ admitted s stream → r ≡ Under q → Admits s stream q
+under-admits s stream r q e u = admitted-gives s stream q (sym e ∙ ap admittedSaid u)
 
 -- ---- checks behind others
 
@@ -72,7 +78,7 @@ pub seen-fits : (s : Sheet) (q : Rules) (stream : ℕ) (x y : Record)
     → q ≡ rulesOf s → seenOf s stream x ≡ gives y → (stream < 8) × (q .seats ≤ 8)
 seen-fits s q stream x y e p =
     let right = seen-gives s stream x y p in
-    rw e (on-sheet-below s stream (right .valid) (right .on), few s (right .valid))
+    rw e (on-sheet-below s stream (right .valid) (right .on), seats-le-8 s (right .valid))
 
 -- .. and the rest is settled
 pub store-settled : (s : Sheet) (a : Try) (rs : List Record) (x : Record)

@@ -29,7 +29,7 @@ use Rattle.reception.specs.History.{ofStream, grantsAt, undoesAt, places
 use Rattle.reception.specs.Claims.{CountFromHistory, CountTold}
 use Rattle.reception.proofs.Laws.Bits.{watches-none, ones-keep}
 use Rattle.reception.proofs.Laws.Records.{legal-below}
-use Rattle.reception.proofs.Laws.Steps.{few, on-sheet-below, WorkRight, attempt-gives, reply-gives}
+use Rattle.reception.proofs.Laws.Steps.{seats-le-8, on-sheet-below, WorkRight, attempt-gives, reply-gives}
 use Rattle.reception.proofs.Laws.Rules.{rule-legal, rule-bits}
 use Rattle.reception.proofs.Laws.Stores.{own-set, own-set-other, starts-legal, legal-own, stays-legal}
 use Rattle.reception.proofs.Laws.Serial.{serial-order}
@@ -113,7 +113,7 @@ module _ (s : Sheet) (x : Record) (e : Event) (a : Try) (w : WorkRight s x e a) 
       let q = rulesOf s in
       let l = legal-below q (e .stream) (tryOf (rulesOf s) x e .wanted) (rule-legal q (e .stream) x (e .what) (w .is-legal) (w .sender)) in
       record {
-        below = lt-of-lt-of-le l (pow-le-pow-right (omega arith) (few s (w .valid)));
+        below = lt-of-lt-of-le l (pow-le-pow-right (omega arith) (seats-le-8 s (w .valid)));
         bits = λ r. rw (shown-snoc, ← h .bits r) (rule-bits q (e .stream) x (e .what) (w .is-legal) (w .sender) r);
       }
 

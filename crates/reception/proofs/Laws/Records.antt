@@ -43,8 +43,8 @@ unfolding sameRecord
 equal-same x y e = rw e (T-and (is (y .phase) y) _ (eqb-refl (phaseNumber (y .phase))) (eqb-refl (y .receivers)))
 
 -- other records are not
-pub other-same : (x y : Record) → (x ≡ y → ⊥) → sameRecord x y ≡ false
-other-same x y n = T-false (sameRecord x y) (λ t. n (same-equal x y t))
+pub other-not-same : (x y : Record) → (x ≡ y → ⊥) → sameRecord x y ≡ false
+other-not-same x y n = T-false (sameRecord x y) (λ t. n (same-equal x y t))
 
 -- the same record has the same byte
 pub same-receivers : (x y : Record) → T (sameRecord x y) → x .receivers ≡ y .receivers

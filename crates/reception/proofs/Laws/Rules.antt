@@ -1,4 +1,5 @@
--- Laws of the event table: what each row does to a legal record, bit by bit. Assumes nothing.
+-- Laws of the event table: what each row does to a record, bit by bit, what its answer says, and the claims on working out that follow.
+-- Assumes nothing.
 use mathlib.Core.Path.{_≡_, refl}
 use mathlib.Core.Logic.{_⊎_, inl, inr, ⊎-elim, _↔_}
 use mathlib.Core.Bool.{Bool, true, false, not, _&&_, _||_, and-true, and-false}
@@ -17,9 +18,9 @@ use Rattle.reception.specs.declared.What.{What}
 use Rattle.reception.specs.declared.What.the-variants.{Request, End, Open, T11, EndResponse, Release}
 use Rattle.reception.specs.declared.stream.Rules.{Rules}
 use Rattle.reception.specs.Record.{watches, setBit, clearBit, free, idle, watched, ending, count, phaseNumber, is, sameRecord, goodReceivers, legalIn, legal, rulesOf}
-use Rattle.reception.specs.Answer.{Done, granted, rejected, ended, opened, endRequested, freed, released, discarded, Sent, Timers, grant, rejection, endResponse, endRequest, ack, untouched}
-use Rattle.reception.specs.Table.{insufficientDownlinkBandwidth, noPermissionToReceive, noReceivingParticipant, Ruling, ruling, discard, reject, onRequest, afterClearing, onEnd, onOpen, onT11, onEndResponse, onRelease, ruleFor, senderOn}
-use Rattle.reception.specs.History.{wasGranted, grants, undoes}
+use Rattle.reception.specs.Answer.{Done, was, granted, rejected, ended, opened, endRequested, freed, released, discarded, Sent, Timers, grant, rejection, endResponse, endRequest, ack, untouched}
+use Rattle.reception.specs.Table.{insufficientDownlinkBandwidth, noPermissionToReceive, noReceivingParticipant, Ruling, ruling, discard, reject, joined, onRequest, afterClearing, onEnd, onOpen, onT11, onEndResponse, onRelease, ruleFor, senderOn}
+use Rattle.reception.specs.History.{grants, undoes}
 use Rattle.reception.specs.Claims.{GrantedExactly, WorksOutLegal, DiscardKeeps}
 use Rattle.reception.proofs.Laws.Bits.{watches-none, watches-set, watches-clear, set-below, clear-le, ones-set, ones-clear}
 use Rattle.reception.proofs.Laws.Records.{same-receivers, legal-below}
@@ -85,7 +86,7 @@ module _ (q : Rules) (s : ℕ) (x : Record) where
   record Row (w : What) (m : Ruling) : Type 0 where
     discards : m .reply .done ≡ discarded → m .becomes ≡ x
     not-ending : m .reply .done ≡ granted → is Ending x ≡ false
-    stays-legal : T (legal q s x) → T (senderOn q w) → T (legal q s (m .becomes))
+    becomes-legal : T (legal q s x) → T (senderOn q w) → T (legal q s (m .becomes))
     bits : T (legal q s x) → (r : ℕ)
         → watches (m .becomes .receivers) r ≡ (grants r w (m .reply .done) || (watches (x .receivers) r && not (undoes r w (m .reply .done))))
 
@@ -93,7 +94,7 @@ module _ (q : Rules) (s : ℕ) (x : Record) where
   kept : (w : What) (d : Done) (sends : Option Sent) (ts : Timers) → (d ≡ granted → is Ending x ≡ false)
       → (T (legal q s x) → (r : ℕ) → watches (x .receivers) r ≡ (grants r w d || (watches (x .receivers) r && not (undoes r w d))))
       → Row w (ruling x d sends ts)
-  kept w d sends ts o bits = record { discards = λ e. refl; not-ending = o; stays-legal = λ l t. l; bits = bits }
+  kept w d sends ts o bits = record { discards = λ e. refl; not-ending = o; becomes-legal = λ l t. l; bits = bits }
 
   -- "request by r" that is rejected
   rejects : (r cause : ℕ) → Row (Request r) (reject x cause)
@@ -115,7 +116,7 @@ module _ (q : Rules) (s : ℕ) (x : Record) where
       record {
         discards = λ e. cc;
         not-ending = λ e. o;
-        stays-legal =
+        becomes-legal =
             λ l t.
             watched-legal q s (setBit b r)
             (watches-some (setBit b r) r (rw (watches-set, T-true (eqb r r) (eqb-refl r)) tt))
@@ -127,7 +128,7 @@ module _ (q : Rules) (s : ℕ) (x : Record) where
 
   -- "request by r"
   request-row : (r : ℕ) → Row (Request r) (onRequest q s x r)
-  unfolding onRequest
+  unfolding onRequest joined
   request-row r =
       pick-cases (Row (Request r)) (eqb r s) _ _ (λ t. rejects r noPermissionToReceive)
       (λ n. pick-cases (Row (Request r)) _ _ _ (λ t. rejects r noPermissionToReceive)
@@ -144,13 +145,13 @@ module _ (q : Rules) (s : ℕ) (x : Record) where
       record {
         discards = λ e. cc;
         not-ending = λ e. cc;
-        stays-legal =
+        becomes-legal =
             λ l u.
-            let few = legal-few l in
+            let seats-le-8 = legal-few l in
             watched-legal q s (clearBit b r) n
-            (rw (watches-clear, few .0))
+            (rw (watches-clear, seats-le-8 .0))
             (omega (arith, clear-le b r, legal-below q s x l))
-            (omega (arith, ones-clear b r t, few .1));
+            (omega (arith, ones-clear b r t, seats-le-8 .1));
         bits = λ l p. clear-bits b r (clearBit b r) p refl;
       }
 
@@ -158,7 +159,7 @@ module _ (q : Rules) (s : ℕ) (x : Record) where
   ends-last : (r : ℕ) (ts : Timers) → clearBit (x .receivers) r ≡ 0 → Row (End r) (ruling idle ended endResponse ts)
   unfolding legal legalIn sameRecord
   ends-last r ts z =
-      record { discards = λ e. cc; not-ending = λ e. cc; stays-legal = λ l u. tt; bits = λ l p. clear-bits (x .receivers) r 0 p z }
+      record { discards = λ e. cc; not-ending = λ e. cc; becomes-legal = λ l u. tt; bits = λ l p. clear-bits (x .receivers) r 0 p z }
 
   -- "end by r"
   end-row : (r : ℕ) → Row (End r) (onEnd x r)
@@ -176,7 +177,7 @@ module _ (q : Rules) (s : ℕ) (x : Record) where
   unfolding onOpen legal legalIn sameRecord
   open-row =
       pick-cases (Row Open) (is Free x) _ _
-      (λ t. record { discards = λ e. cc; not-ending = λ e. cc; stays-legal = λ l u. tt; bits = λ l r. rw (watches-none, and-false) })
+      (λ t. record { discards = λ e. cc; not-ending = λ e. cc; becomes-legal = λ l u. tt; bits = λ l r. rw (watches-none, and-false) })
       (λ f. kept Open discarded _ _ (λ e. cc) (λ l r. rw and-true))
 
   -- "T11 expired"
@@ -184,7 +185,7 @@ module _ (q : Rules) (s : ℕ) (x : Record) where
   unfolding onT11 legal legalIn sameRecord
   t11-row =
       pick-cases (Row T11) (is Idle x) _ _
-      (λ t. record { discards = λ e. cc; not-ending = λ e. cc; stays-legal = λ l u. tt; bits = λ l r. rw (watches-none, legal-none 1 t refl l r) })
+      (λ t. record { discards = λ e. cc; not-ending = λ e. cc; becomes-legal = λ l u. tt; bits = λ l r. rw (watches-none, legal-none 1 t refl l r) })
       (λ f. kept T11 discarded _ _ (λ e. cc) (λ l r. rw and-true))
 
   -- "end response from s"
@@ -192,7 +193,7 @@ module _ (q : Rules) (s : ℕ) (x : Record) where
   unfolding onEndResponse legal legalIn sameRecord
   end-response-row asked =
       pick-cases (Row (EndResponse asked)) (is Ending x) _ _
-      (λ t. record { discards = λ e. cc; not-ending = λ e. cc; stays-legal = λ l u. tt; bits = λ l r. rw (watches-none, legal-none 3 t refl l r) })
+      (λ t. record { discards = λ e. cc; not-ending = λ e. cc; becomes-legal = λ l u. tt; bits = λ l r. rw (watches-none, legal-none 3 t refl l r) })
       (λ f. kept (EndResponse asked) discarded _ _ (λ e. cc) (λ l r. rw and-true))
 
   -- "release"
@@ -201,7 +202,7 @@ module _ (q : Rules) (s : ℕ) (x : Record) where
   release-row =
       pick-cases (Row Release) (is Free x) _ _
       (λ t. kept Release discarded _ _ (λ e. cc) (λ l r. rw (legal-none 0 t refl l r)))
-      (λ f. record { discards = λ e. cc; not-ending = λ e. cc; stays-legal = λ l u. tt; bits = λ l r. rw (watches-none, and-false) })
+      (λ f. record { discards = λ e. cc; not-ending = λ e. cc; becomes-legal = λ l u. tt; bits = λ l r. rw (watches-none, and-false) })
 
   -- the table
   rule-row : (w : What) → Row w (ruleFor q s x w)
@@ -225,16 +226,6 @@ Plain m =
     (m .reply .done ≡ discarded → (m .reply .sends ≡ none) × (m .reply .timers ≡ untouched))
     × ((m .reply .done ≡ granted) ↔ (m .reply .sends ≡ grant))
 
-abbrev wasDiscarded : Done → Bool
-wasDiscarded granted = false
-wasDiscarded rejected = false
-wasDiscarded ended = false
-wasDiscarded opened = false
-wasDiscarded endRequested = false
-wasDiscarded freed = false
-wasDiscarded released = false
-wasDiscarded discarded = true
-
 -- a Result of 1
 abbrev is1 : Option ℕ → Bool
 is1 none = false
@@ -245,12 +236,12 @@ abbrev isGrant : Option Sent → Bool
 isGrant none = false
 isGrant (some m) = eqb (m .kind) 2 && is1 (m .result)
 
--- an answer that is neither
-neither : (x : Record) (d : Done) (sends : Option Sent) (ts : Timers) → wasGranted d ≡ false → wasDiscarded d ≡ false → isGrant sends ≡ false
+-- an answer that is plain-other
+plain-other : (x : Record) (d : Done) (sends : Option Sent) (ts : Timers) → was granted d ≡ false → was discarded d ≡ false → isGrant sends ≡ false
     → Plain (ruling x d sends ts)
-neither x d sends ts p q r = (
-  (λ e. absurd (false-T (wasDiscarded d) q (rw e tt))),
-  ((λ e. absurd (false-T (wasGranted d) p (rw e tt))), (λ e. absurd (false-T (isGrant sends) r (rw e tt)))),
+plain-other x d sends ts p q r = (
+  (λ e. absurd (false-T (was discarded d) q (rw e tt))),
+  ((λ e. absurd (false-T (was granted d) p (rw e tt))), (λ e. absurd (false-T (isGrant sends) r (rw e tt)))),
 )
 
 -- a grant
@@ -263,37 +254,37 @@ discarding x = ((λ e. (refl, refl)), ((λ e. cc), (λ e. cc)))
 
 -- so is every answer of the table
 rule-plain : (q : Rules) (s : ℕ) (x : Record) (w : What) → Plain (ruleFor q s x w)
-unfolding ruleFor onRequest onEnd afterClearing onOpen onT11 onEndResponse onRelease
+unfolding ruleFor onRequest joined onEnd afterClearing onOpen onT11 onEndResponse onRelease
 rule-plain q s x (Request r) =
-    let rejecting : (cause : ℕ) → Plain (reject x cause) = λ cause. neither x rejected (rejection cause) untouched refl refl refl in
+    let rejecting : (cause : ℕ) → Plain (reject x cause) = λ cause. plain-other x rejected (rejection cause) untouched refl refl refl in
     pick-cases Plain (eqb r s) _ _ (λ t. rejecting noPermissionToReceive)
     (λ f. pick-cases Plain (is Free x || is Ending x) _ _ (λ t. rejecting noPermissionToReceive)
     (λ f. pick-cases Plain (watches (x .receivers) r) _ _ (λ t. granting x untouched)
     (λ f. pick-cases Plain (leb (q .limit) (count x)) _ _ (λ t. rejecting insufficientDownlinkBandwidth) (λ f. granting x _))))
 rule-plain q s x (End r) =
-    let ending : (y : Record) (ts : Timers) → Plain (ruling y ended endResponse ts) = λ y ts. neither y ended endResponse ts refl refl refl in
+    let ending : (y : Record) (ts : Timers) → Plain (ruling y ended endResponse ts) = λ y ts. plain-other y ended endResponse ts refl refl refl in
     pick-cases Plain (watches (x .receivers) r) _ _
     (λ t. pick-cases Plain (eqb (clearBit (x .receivers) r) 0) _ _ (λ u. ending x _) (λ f. ending x _))
     (λ f. ending x _)
-rule-plain q s x Open = pick-cases Plain (is Free x) _ _ (λ t. neither x opened none _ refl refl refl) (λ f. discarding x)
+rule-plain q s x Open = pick-cases Plain (is Free x) _ _ (λ t. plain-other x opened none _ refl refl refl) (λ f. discarding x)
 rule-plain q s x T11 =
-    pick-cases Plain (is Idle x) _ _ (λ t. neither x endRequested (endRequest noReceivingParticipant) _ refl refl refl) (λ f. discarding x)
-rule-plain q s x (EndResponse true) = pick-cases Plain (is Ending x) _ _ (λ t. neither x freed ack _ refl refl refl) (λ f. discarding x)
-rule-plain q s x (EndResponse false) = pick-cases Plain (is Ending x) _ _ (λ t. neither x freed none _ refl refl refl) (λ f. discarding x)
-rule-plain q s x Release = pick-cases Plain (is Free x) _ _ (λ t. discarding x) (λ f. neither x released none _ refl refl refl)
+    pick-cases Plain (is Idle x) _ _ (λ t. plain-other x endRequested (endRequest noReceivingParticipant) _ refl refl refl) (λ f. discarding x)
+rule-plain q s x (EndResponse true) = pick-cases Plain (is Ending x) _ _ (λ t. plain-other x freed ack _ refl refl refl) (λ f. discarding x)
+rule-plain q s x (EndResponse false) = pick-cases Plain (is Ending x) _ _ (λ t. plain-other x freed none _ refl refl refl) (λ f. discarding x)
+rule-plain q s x Release = pick-cases Plain (is Free x) _ _ (λ t. discarding x) (λ f. plain-other x released none _ refl refl refl)
 
 -- a grant is answered exactly where a granted response is sent
 pub granted-exactly : GrantedExactly
 granted-exactly q s x w = rule-plain q s x w .1
 
 -- no event is granted on a record that is Ending
-pub rule-grants : (q : Rules) (s : ℕ) (x : Record) (w : What) → ruleFor q s x w .reply .done ≡ granted → is Ending x ≡ false
-rule-grants q s x w e = rule-row q s x w .not-ending e
+pub granted-not-ending : (q : Rules) (s : ℕ) (x : Record) (w : What) → ruleFor q s x w .reply .done ≡ granted → x .phase ≡ Ending → ⊥
+granted-not-ending q s x w e p = false-T (is Ending x) (rule-row q s x w .not-ending e) (rw p tt)
 
 module _ (q : Rules) (s : ℕ) (x : Record) (w : What) (l : T (legal q s x)) (sender : T (senderOn q w)) where
   -- what becomes of a legal record is legal
   pub rule-legal : T (legal q s (ruleFor q s x w .becomes))
-  rule-legal = rule-row q s x w .stays-legal l sender
+  rule-legal = rule-row q s x w .becomes-legal l sender
 
   -- a bit is set afterwards exactly if it was granted now, or was set and was not ended now
   pub rule-bits : (r : ℕ)

@@ -16,10 +16,10 @@ use Rattle.reception.specs.Table.{Answered}
 use Rattle.reception.specs.Schedule.{Step, reads, worksOut, stores, WorkedOut, State, start, after, ifTook, takenAt, run, taken}
 use Rattle.reception.specs.Serial.{ruled, next, recordsInTurn, answersInTurn}
 use Rattle.reception.specs.Claims.{events, SerialOrder, NoAccident}
-use Rattle.reception.proofs.Laws.Rules.{granted-exactly, rule-grants}
+use Rattle.reception.proofs.Laws.Rules.{granted-exactly, granted-not-ending}
 use Rattle.reception.proofs.Laws.Steps.{attempt-gives, reply-gives}
 
--- ---- recordsInTurn order
+-- ---- serial order
 
 -- a store that took leaves what the table makes of the records, and its answer is the table's
 took-ruled : (s : Sheet) (a : Try) (e : Event) (rs : List Record) (reply : Reply) → (x : Record) × (attemptOf s x e ≡ gives a)
@@ -78,17 +78,18 @@ unfolding recordsInTurn answersInTurn
 serially-last q [] t rs p = cc
 serially-last q (u ∷ us) t rs p = serially-last q us t (next q (u .event) rs) (cc)
 
--- By the recordsInTurn order of the schedule with this store as its last step: its answer is the table's, which grants nothing on Ending.
+-- By the serial order of the schedule with this store as its last step: its answer is the table's, which grants nothing on Ending.
 pub no-accident : NoAccident
 unfolding storeOf takenAt ifTook
-no-accident s rs before q a e reply h w p g =
+no-accident s rs before by a e reply h w p g =
     let x : ℕ → Record = own (run s before (start rs) .records) in
     let ts = taken s before (start rs) in
     let t : Answered = record { event = e; reply = reply } in
-    let took : taken s (before ++ (stores q a e ∷ [])) (start rs) ≡ ts ++ (t ∷ []) = taken-snoc s before (stores q a e) (start rs) ∙ rw p in
-    let order = serial-order s rs (before ++ (stores q a e ∷ [])) (all-snoc (WorkedOut s) before (stores q a e) h w) in
+    let took : taken s (before ++ (stores by a e ∷ [])) (start rs) ≡ ts ++ (t ∷ []) = taken-snoc s before (stores by a e) (start rs) ∙ rw p in
+    let order = serial-order s rs (before ++ (stores by a e ∷ [])) (all-snoc (WorkedOut s) before (stores by a e) h w) in
     let last = serially-last (rulesOf s) ts t rs (rw took at (order .1)) in
     let left = serial-order s rs before h .0 in
     let same = attempt-gives s (w .0) e a (w .1) .same in
     let stream : e .stream ≡ a .stream = cc in
-    (reply-gives s a (x (a .stream)) reply p .seen, rw stream at (rule-grants (rulesOf s) (e .stream) (x (e .stream)) (e .what) (granted-exactly (rulesOf s) (e .stream) (x (e .stream)) (e .what) .1 (cc))))
+    let grants = granted-exactly (rulesOf s) (e .stream) (x (e .stream)) (e .what) .1 (cc) in
+    (reply-gives s a (x (a .stream)) reply p .seen, rw stream at (granted-not-ending (rulesOf s) (e .stream) (x (e .stream)) (e .what) grants))

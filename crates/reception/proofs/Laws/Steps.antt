@@ -11,6 +11,7 @@ use Rattle.sheet.specs.Value.{validAlone}
 use Rattle.sheet.proofs.Laws.Values.{few-seats}
 use Rattle.reception.specs.declared.Record.{Record}
 use Rattle.reception.specs.declared.Event.{Event}
+use Rattle.reception.specs.declared.stream.Rules.{Rules}
 use Rattle.reception.specs.Record.{rulesOf, onSheet, sameRecord, legal}
 use Rattle.reception.specs.Answer.{Reply}
 use Rattle.reception.specs.Table.{senderOn}
@@ -20,13 +21,17 @@ use Rattle.reception.proofs.Laws.Records.{same-equal}
 -- ---- seats
 
 -- a valid sheet has at most eight seats
-pub few : (s : Sheet) → T (validAlone s) → rulesOf s .seats ≤ 8
+pub seats-le-8 : (s : Sheet) → T (validAlone s) → rulesOf s .seats ≤ 8
 unfolding mostSeats
-few s v = few-seats s v
+seats-le-8 s v = few-seats s v
 
--- so a seat on it has a bit in the byte
+-- a seat among at most eight has a bit in the byte
+pub on-below : (q : Rules) (r : ℕ) → T (onSheet q r) → q .seats ≤ 8 → r < 8
+on-below q r t h = omega (arith, ltb→lt r (q .seats) t)
+
+-- so has a seat on a valid sheet
 pub on-sheet-below : (s : Sheet) (r : ℕ) → T (validAlone s) → T (onSheet (rulesOf s) r) → r < 8
-on-sheet-below s r v t = omega (arith, few s v, ltb→lt r (s .seats) t)
+on-sheet-below s r v t = on-below (rulesOf s) r t (seats-le-8 s v)
 
 -- ---- a check that gave something
 

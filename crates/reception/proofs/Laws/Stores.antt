@@ -1,5 +1,5 @@
--- What the steps do to the eight records: reading and working out change nothing, the store rule, and that every schedule keeps them legal.
--- Assumes nothing.
+-- What the steps do to the eight records: reading and working out change nothing, the store rule, that every schedule keeps them legal, and
+-- what an undisturbed event does. Assumes nothing.
 use mathlib.Core.Path.{_≡_, refl}
 use mathlib.Core.Logic.{⊎-elim}
 use mathlib.Core.List.{List, [], _∷_}
@@ -20,7 +20,7 @@ use Rattle.reception.specs.Table.{senderOn}
 use Rattle.reception.specs.Steps.{Said, gives, refuses, check, Try, tryOf, seenOf, readOf, attemptOf, workOf, replyOf, stored, storeOf}
 use Rattle.reception.specs.Schedule.{Step, reads, worksOut, stores, State, after, start, run}
 use Rattle.reception.specs.Claims.{Legal, StartsLegal, ReadRule, WorkRule, Storable, StoreRule, RefusedKeeps, StaysLegal, Undisturbed}
-use Rattle.reception.proofs.Laws.Records.{equal-same, other-same}
+use Rattle.reception.proofs.Laws.Records.{equal-same, other-not-same}
 use Rattle.reception.proofs.Laws.Steps.{on-sheet-below, reply-gives}
 use Rattle.reception.proofs.Laws.Rules.{rule-legal}
 
@@ -89,7 +89,7 @@ module _ (s : Sheet) (a : Try) (rs : List Record) (h : Storable s a rs) where
 
   -- where it does not, it is stale
   reply-stale : (own rs (a .stream) ≡ a .seen → ⊥) → replyOf s a (own rs (a .stream)) ≡ refuses 10 0
-  reply-stale n = rw (reply-checks, other-same (own rs (a .stream)) (a .seen) n)
+  reply-stale n = rw (reply-checks, other-not-same (own rs (a .stream)) (a .seen) n)
 
 pub store-rule : StoreRule
 unfolding storeOf stored

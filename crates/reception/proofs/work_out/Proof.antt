@@ -1,9 +1,9 @@
 -- `reception::work_out` meets its contract: past the checks of the sheet and the stream (`attempt-past`) the event is tried. Assumes nothing.
-use mathlib.Core.Path.{_≡_, sym, ap, _∙_}
+use mathlib.Core.Path.{sym, ap, _∙_}
 use borrow.Author.Needs.{needs}
 use Rattle.reception.specs.Steps.{workOf}
-use Rattle.reception.specs.Inner.{admitted, admittedSaid}
-use Rattle.reception.proofs.Laws.Checks.{Admits, admitted-gives, attempt-past}
+use Rattle.reception.specs.Inner.{admittedSaid}
+use Rattle.reception.proofs.Laws.Checks.{Admits, under-admits, attempt-past}
 use Rattle.reception.proofs.work_out.Statement.{statement}
 use Rattle.reception.proofs.work_out.Tie as tie
 
@@ -13,19 +13,11 @@ admit-requires c κs = search needs
 enum-known-rules : tie.Need-enum-known-rules
 enum-known-rules c = search needs
 
--- what the checks said
-told : (c : tie.After-admit)
-    → let a = c .before .args in
-    admitted (a .sheet) (a .event .stream) ≡ admittedSaid (c .admit .result)
-told c = sym (c .admit .ensures)
-
 -- where the stream is admitted, by which rules
 admits : (c : tie.After-known-told)
     → let a = c .before .before .before .before .args in
     Admits (a .sheet) (a .event .stream) (c .before .rules .given .0 .0)
-admits c =
-    let admit = c .before .before .before in
-    admitted-gives _ _ _ (told admit ∙ ap admittedSaid (c .before .rules .given .1))
+admits c = under-admits _ _ _ _ (c .before .before .before .admit .ensures) (c .before .rules .given .1)
 
 attempt-on-requires : tie.Need-attempt-on-requires
 attempt-on-requires c κs = admits c .fits
@@ -38,13 +30,13 @@ unfolding workOf
 returns c rs =
     let known = c .before in
     let admit = known .before .before .before in
-    rw (attempt-past _ _ _, told admit ∙ ap admittedSaid (known .before .rules .given .1), admits known .same, c .attempt-on .ensures)
+    rw (attempt-past _ _ _, sym (admit .admit .ensures) ∙ ap admittedSaid (known .before .rules .given .1), admits known .same, c .attempt-on .ensures)
 
 returns-2 : tie.Need-returns-2
 unfolding workOf
 returns-2 c rs =
     let admit = c .before .before .before in
-    rw (attempt-past _ _ _, told admit ∙ ap admittedSaid (c .before .refusal .given .1))
+    rw (attempt-past _ _ _, sym (admit .admit .ensures) ∙ ap admittedSaid (c .before .refusal .given .1))
 
 pub work-out-spec : {M : Type 1} → statement M
 work-out-spec =

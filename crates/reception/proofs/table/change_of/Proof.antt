@@ -1,25 +1,17 @@
 -- `reception::table::change_of` meets its contract: event by event, each by its row's function. Assumes nothing.
-use Prim.Native.Nat.{ℕ, _<_, _≤_}
-use native.Mathlib.Omega.{arith}
-use lib.Dec.{T, ltb→lt}
 use borrow.Author.Needs.{needs}
-use Rattle.reception.specs.declared.stream.Rules.{Rules}
-use Rattle.reception.specs.Record.{onSheet}
 use Rattle.reception.specs.Table.{ruleFor}
+use Rattle.reception.proofs.Laws.Steps.{on-below}
 use Rattle.reception.proofs.table.change_of.Statement.{statement}
 use Rattle.reception.proofs.table.change_of.Tie as tie
 
 enum-known-what : tie.Need-enum-known-what
 enum-known-what c = search needs
 
--- a seat on the sheet has a bit in the byte
-has-bit : (q : Rules) (r : ℕ) → T (onSheet q r) → q .seats ≤ 8 → r < 8
-has-bit q r t h = omega (arith, ltb→lt r (q .seats) t)
-
 request-requires : tie.Need-request-requires
 request-requires c κs =
     let start = c .before .before .before in
-    has-bit (start .args .rules) _ (rw (c .before .what .given .1) at (start .pre .0)) (start .pre .1)
+    on-below (start .args .rules) _ (rw (c .before .what .given .1) at (start .pre .0)) (start .pre .1)
 
 enum-known-what-2 : tie.Need-enum-known-what-2
 enum-known-what-2 c = search needs
@@ -27,7 +19,7 @@ enum-known-what-2 c = search needs
 end-requires : tie.Need-end-requires
 end-requires c κs =
     let start = c .before .before .before in
-    has-bit (start .args .rules) _ (rw (c .before .what2 .given .1) at (start .pre .0)) (start .pre .1)
+    on-below (start .args .rules) _ (rw (c .before .what2 .given .1) at (start .pre .0)) (start .pre .1)
 
 enum-told : tie.Need-enum-told
 enum-told c = search needs

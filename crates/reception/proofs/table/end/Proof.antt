@@ -14,18 +14,24 @@ use Rattle.reception.proofs.table.end.Tie as tie
 has-requires : tie.Need-has-requires
 has-requires c κs = search needs
 
-answered-requires : tie.Need-answered-requires
-answered-requires c κs = search needs
+with-answer-requires : tie.Need-with-answer-requires
+with-answer-requires c κs = search needs
+
+-- whether the seat is watching
+told : (c : tie.After-has)
+    → let a = c .before .args in
+    watches (a .own .receivers) (a .by) ≡ c .has .result
+told c = sym (c .has .ensures)
 
 returns : tie.Need-returns
 unfolding onEnd
-returns c = rw (c .answered .ensures .0, c .answered .ensures .1, sym (c .before .before .has .ensures) ∙ not-true _ (c .before .if1 .taken))
+returns c = rw (c .with-answer .ensures .0, c .with-answer .ensures .1, told (c .before .before) ∙ not-true _ (c .before .if1 .taken))
 
 -- past the first test the seat is watching
 watching : (c : tie.Else1)
     → let a = c .before .before .args in
     watches (a .own .receivers) (a .by) ≡ true
-watching c = sym (c .before .has .ensures) ∙ not-false _ (c .if1 .left)
+watching c = told (c .before) ∙ not-false _ (c .if1 .left)
 
 without-requires : tie.Need-without-requires
 without-requires c κs = (search needs, true-T _ (watching c))
@@ -33,40 +39,40 @@ without-requires c κs = (search needs, true-T _ (watching c))
 idle-requires : tie.Need-idle-requires
 idle-requires c κs = search needs
 
-answered-requires-2 : tie.Need-answered-requires-2
-answered-requires-2 c κs = search needs
+with-answer-requires-2 : tie.Need-with-answer-requires-2
+with-answer-requires-2 c κs = search needs
 
 returns-2 : tie.Need-returns-2
 unfolding onEnd afterClearing
 returns-2 c =
     let cleared = c .before .before .before in
     let none = eq-eqb (cleared .without .result) 0 (omega arith) in
-    rw (c .answered2 .ensures .0, c .answered2 .ensures .1, c .before .idle .ensures, watching (cleared .before), ← cleared .without .ensures, none)
+    rw (c .with-answer2 .ensures .0, c .with-answer2 .ensures .1, c .before .idle .ensures, watching (cleared .before), ← cleared .without .ensures, none)
 
 watched-requires : tie.Need-watched-requires
 watched-requires c κs = search needs
 
-answered-requires-3 : tie.Need-answered-requires-3
-answered-requires-3 c κs = search needs
+with-answer-requires-3 : tie.Need-with-answer-requires-3
+with-answer-requires-3 c κs = search needs
 
 returns-3 : tie.Need-returns-3
 unfolding onEnd afterClearing
 returns-3 c =
     let cleared = c .before .before .before in
     let some = ne-eqb (cleared .without .result) 0 (λ e. omega arith) in
-    rw (c .answered3 .ensures .0, c .answered3 .ensures .1, c .before .watched .ensures, watching (cleared .before), ← cleared .without .ensures, some)
+    rw (c .with-answer3 .ensures .0, c .with-answer3 .ensures .1, c .before .watched .ensures, watching (cleared .before), ← cleared .without .ensures, some)
 
 pub end-spec : {M : Type 1} → statement M
 end-spec =
     tie.close
     (tie.spec
     has-requires
-    answered-requires
+    with-answer-requires
     returns
     without-requires
     idle-requires
-    answered-requires-2
+    with-answer-requires-2
     returns-2
     watched-requires
-    answered-requires-3
+    with-answer-requires-3
     returns-3)

@@ -1,11 +1,14 @@
 -- `reception::table::freed` meets its contract: an Ack is asked for, or it is not. Assumes nothing.
+use Rattle.reception.specs.Table.{onEndResponse}
 use Rattle.reception.proofs.table.freed.Statement.{statement}
 use Rattle.reception.proofs.table.freed.Tie as tie
 
 returns : tie.Need-returns
+unfolding onEndResponse
 returns c = rw (c .if1 .taken)
 
 returns-2 : tie.Need-returns-2
+unfolding onEndResponse
 returns-2 c = rw (c .if1 .left)
 
 pub freed-spec : {M : Type 1} → statement M
