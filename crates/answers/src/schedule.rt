@@ -141,28 +141,41 @@ fn leaving(memory: Memory, records: Streams, said: Said) -> Memory {
     }
 }
 
-fn reads(sheet: Sheet, memory: Memory, which: u8, stream: u8) -> Memory {
-    let records = memory.records;
-    let slot = slot_of(memory, which);
-    let attempt = slot.attempt;
-    let seen = reception::read(sheet, records, stream);
-    let said = stream::seen_said(stream, seen);
+// The record that was read, or the one held before.
+fn record_or(seen: Seen, other: Record) -> Record {
     match seen {
-        Seen::Read(seen) => holding(memory, which, Slot { seen, attempt }, said),
-        Seen::Refused(_) => leaving(memory, records, said),
+        Seen::Read(x) => x,
+        Seen::Refused(_) => other,
     }
 }
 
-fn works_out(sheet: Sheet, memory: Memory, which: u8, event: Event) -> Memory {
+// The attempt that was worked out, or the one held before.
+fn attempt_or(worked: Worked, other: Attempt) -> Attempt {
+    match worked {
+        Worked::Out(attempt) => attempt,
+        Worked::Refused(_) => other,
+    }
+}
+
+fn reads(sheet: Sheet, memory: Memory, which: u8, stream: u8) -> Memory {
     let records = memory.records;
     let slot = slot_of(memory, which);
+    let before = slot.seen;
+    let attempt = slot.attempt;
+    let seen = reception::read(sheet, records, stream);
+    let said = stream::seen_said(stream, seen);
+    let seen = record_or(seen, before);
+    holding(memory, which, Slot { seen, attempt }, said)
+}
+
+fn works_out(sheet: Sheet, memory: Memory, which: u8, event: Event) -> Memory {
+    let slot = slot_of(memory, which);
     let seen = slot.seen;
+    let before = slot.attempt;
     let worked = reception::work_out(sheet, seen, event);
     let said = stream::worked_said(worked);
-    match worked {
-        Worked::Out(attempt) => holding(memory, which, Slot { seen, attempt }, said),
-        Worked::Refused(_) => leaving(memory, records, said),
-    }
+    let attempt = attempt_or(worked, before);
+    holding(memory, which, Slot { seen, attempt }, said)
 }
 
 fn stores(sheet: Sheet, memory: Memory, which: u8) -> Memory {
@@ -181,6 +194,16 @@ fn counts(sheet: Sheet, memory: Memory, stream: u8) -> Memory {
     let counted = reception::count(sheet, records, stream);
     let said = stream::counted_said(stream, counted);
     leaving(memory, records, said)
+}
+
+// Puts what the last step said, and the records after it.
+fn put_step(out: &mut [u8], at: usize, memory: Memory)
+    requires { ⌜ at < 2048 ⌝ }
+{
+    let said = memory.said;
+    let records = memory.records;
+    stream::put_said(out, at, said);
+    stream::put_records(out, at + stream::SAID, records);
 }
 
 // ---- steps, each asked for by itself
@@ -209,12 +232,8 @@ pub fn steps(body: &[u8], out: &mut [u8]) -> usize
     let n = items(body, START, STEP, question::MOST / STEP_SAID);
     let mut k = 0;
     while k < n {
-        let put = k * STEP_SAID;
         memory = step(sheet, memory, body, START + k * STEP);
-        let said = memory.said;
-        let records = memory.records;
-        stream::put_said(out, put, said);
-        stream::put_records(out, put + stream::SAID, records);
+        put_step(out, k * STEP_SAID, memory);
         k += 1;
     }
     n * STEP_SAID
@@ -307,11 +326,8 @@ pub fn stores_of_any(body: &[u8], out: &mut [u8]) -> usize
     let n = items(body, START, ATTEMPT, question::MOST / STEP_SAID);
     let mut k = 0;
     while k < n {
-        let memory = stores(sheet, with_attempt(start, body, START + k * ATTEMPT), 0);
-        let said = memory.said;
-        let records = memory.records;
-        stream::put_said(out, k * STEP_SAID, said);
-        stream::put_records(out, k * STEP_SAID + stream::SAID, records);
+        let memory = with_attempt(start, body, START + k * ATTEMPT);
+        put_step(out, k * STEP_SAID, stores(sheet, memory, 0));
         k += 1;
     }
     n * STEP_SAID

@@ -73,37 +73,14 @@ pub fn users_in(body: &[u8]) -> [[u8; 60]; 8] {
     ]
 }
 
-// Puts the numbers of the messages.
-fn put_messages(out: &mut [u8], sheet: Sheet) {
-    number::put_nth(out, 2, sheet.request);
-    number::put_nth(out, 3, sheet.response);
-    number::put_nth(out, 4, sheet.endrequest);
-    number::put_nth(out, 5, sheet.endresponse);
-    number::put_nth(out, 6, sheet.txend);
-    number::put_nth(out, 7, sheet.txendresponse);
-    number::put_nth(out, 8, sheet.ack);
-}
-
-fn put_ssrcs(out: &mut [u8], ssrcs: [u32; 8]) {
-    number::put_nth(out, 11, ssrcs[0]);
-    number::put_nth(out, 12, ssrcs[1]);
-    number::put_nth(out, 13, ssrcs[2]);
-    number::put_nth(out, 14, ssrcs[3]);
-    number::put_nth(out, 15, ssrcs[4]);
-    number::put_nth(out, 16, ssrcs[5]);
-    number::put_nth(out, 17, ssrcs[6]);
-    number::put_nth(out, 18, ssrcs[7]);
-}
-
 // Puts a sheet's numbers at the front of out.
 pub fn put_sheet(out: &mut [u8], sheet: Sheet) {
-    let ssrcs = sheet.ssrcs;
-    number::put_nth(out, 0, sheet.server);
-    number::put_nth(out, 1, sheet.limit);
-    put_messages(out, sheet);
-    number::put_nth(out, 9, sheet.resultid);
-    number::put_nth(out, 10, sheet.seats);
-    put_ssrcs(out, ssrcs);
+    let numbers = sheet::numbers::numbers_of(sheet);
+    let mut k = 0;
+    while k < 19 {
+        number::put_nth(out, k, numbers[k]);
+        k += 1;
+    }
 }
 
 // Puts one octet at a place, where there is room.

@@ -1,42 +1,31 @@
-//! Compares the proved program's answers with the second program's.
+//! Judges the answers about sheets and packets.
 
+use crate::asked::Asked;
 use crate::shown;
 use crate::tally::Tally;
-use crate::wire::{self, Answer, Case};
+use crate::wire::{Answer, Case};
 use crate::writer;
-
-const SHOWN: usize = 5;
-
-#[derive(Default)]
-pub struct Comparison {
-    cases: usize,
-    different: usize,
-    tally: Tally,
-}
 
 /// What a case asks, cut where it is long.
 fn asked(case: &Case) -> String {
     format!("{:.1500}", shown::case(case))
 }
 
-/// What a case asked and both answers, shown for its first part that differs.
-fn show_difference(case: &Case, got: Option<&[u8]>) {
+/// What a case asked and both answers, for its first part that differs.
+fn difference(case: &Case, got: Option<&[u8]>) -> String {
     let Some(mut rest) = got else {
-        println!("  no answer to {}", asked(case));
-        return;
+        return format!("  no answer to {}", asked(case));
     };
     for part in case.parts() {
         let expected = part.answer().body();
         let (got, behind) = rest.split_at(expected.len().min(rest.len()));
         if got != expected {
-            println!("  asked: {}", asked(&part));
-            println!("  second program: {}", shown::answer(&part, &expected));
-            println!("  proved program: {}", shown::answer(&part, got));
-            return;
+            let [second, proved] = [&expected[..], got].map(|body| shown::answer(&part, body));
+            return format!("  asked: {}\n  second program: {second}\n  proved program: {proved}", asked(&part));
         }
         rest = behind;
     }
-    println!("  {} octets too many in the answer to {}", rest.len(), asked(case));
+    format!("  {} octets too many in the answer to {}", rest.len(), asked(case))
 }
 
 /// Whether what was written, if something was, reads back to what the message says.
@@ -48,39 +37,24 @@ fn reads_back(case: &Case, answer: &Answer) -> bool {
     matches!(back, Some(Ok(read)) if same(read))
 }
 
-impl Comparison {
-    fn one(&mut self, case: &Case, got: Option<&[u8]>) {
-        let answer = case.answer();
-        self.tally.note(case, &answer);
-        self.cases += 1;
-        let agree = got == Some(&answer.body());
-        if agree && reads_back(case, &answer) {
-            return;
-        }
-        self.different += 1;
-        if self.different > SHOWN {
-            return;
-        }
-        println!("case {} differs", self.cases);
-        if agree {
-            println!("  reads back as another message: {}", asked(case));
-        } else {
-            show_difference(case, got);
-        }
+impl Asked for Case {
+    type Tally = Tally;
+
+    fn octets(&self) -> Vec<u8> {
+        Case::octets(self)
     }
 
-    /// Compares the answers to all cases, and prints the counts; true where they agree and the cases show enough.
-    pub fn run(mut self, cases: impl Iterator<Item = Case>, mut answers: &[u8]) -> bool {
-        for case in cases {
-            let got = wire::take_answer(&mut answers);
-            self.one(&case, got);
+    fn expected(&self) -> Vec<u8> {
+        self.answer().body()
+    }
+
+    fn judge(&self, tally: &mut Tally, got: Option<&[u8]>) -> Option<String> {
+        let answer = self.answer();
+        tally.note(self, &answer);
+        if got != Some(&answer.body()) {
+            return Some(difference(self, got));
         }
-        let enough = self.tally.print();
-        if !answers.is_empty() {
-            println!("{} octets follow the last answer", answers.len());
-        }
-        println!("{} cases compared; {} differ", self.cases, self.different);
-        self.different == 0 && enough && answers.is_empty()
+        (!reads_back(self, &answer)).then(|| format!("  reads back as another message: {}", asked(self)))
     }
 }
 
@@ -92,11 +66,8 @@ mod tests {
     use crate::packet::Message;
     use crate::sample;
 
-    /// Whether an answer is seen to differ; nothing is shown.
     fn differs(case: &Case, got: Option<&[u8]>) -> bool {
-        let mut comparison = Comparison { different: SHOWN, ..Comparison::default() };
-        comparison.one(case, got);
-        comparison.different > SHOWN
+        case.judge(&mut Tally::default(), got).is_some()
     }
 
     #[test]

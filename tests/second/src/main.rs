@@ -2,9 +2,12 @@
 //!
 //!     second make SEED ROUNDS > CASES
 //!     second compare SEED ROUNDS < ANSWERS
+//!     second reception make SEED ROUNDS > CASES
+//!     second reception compare SEED ROUNDS < ANSWERS
 //!     second sample cases > crates/answers/stdin
 //!     second sample answers > crates/answers/stdout
 
+mod asked;
 mod bench;
 mod compare;
 mod damage;
@@ -15,6 +18,7 @@ mod packet;
 mod packets;
 mod places;
 mod random;
+mod reception;
 mod sample;
 mod sheet;
 mod shown;
@@ -25,12 +29,16 @@ mod values;
 mod wire;
 mod writer;
 
+use asked::Asked;
 use random::Random;
-use std::io::{self, Read, Write};
+use std::io::{self, BufWriter, Write};
 use std::process::ExitCode;
 use wire::Case;
 
-/// Every case that is thought of, then so many rounds of cases by chance.
+const USAGE: &str =
+    "second [reception] make SEED ROUNDS | [reception] compare SEED ROUNDS | sample cases | sample answers";
+
+/// Every case about sheets and packets that is thought of, then so many rounds of cases by chance.
 fn cases(seed: u64, rounds: usize) -> Vec<Case> {
     let random = &mut Random::new(seed);
     let mut cases: Vec<Case> = texts::systematic(random).into_iter().map(Case::Read).collect();
@@ -52,37 +60,30 @@ fn cases(seed: u64, rounds: usize) -> Vec<Case> {
     cases
 }
 
-/// Cases as `answers` reads them: how many there are, and each.
-fn case_octets(cases: &[Case]) -> Vec<u8> {
-    let count = (cases.len() as u32).to_be_bytes();
-    count.into_iter().chain(cases.iter().flat_map(Case::octets)).collect()
+fn print_cases(cases: impl ExactSizeIterator<Item = Vec<u8>>) -> io::Result<bool> {
+    let mut out = BufWriter::new(io::stdout().lock());
+    asked::write_cases(&mut out, cases)?;
+    out.flush().map(|()| true)
 }
 
-/// The answers to cases as `answers` writes them.
-fn answer_octets(cases: &[Case]) -> Vec<u8> {
-    cases.iter().flat_map(|case| case.answer().octets()).collect()
-}
-
-fn print(octets: &[u8]) -> io::Result<bool> {
-    io::stdout().write_all(octets).map(|()| true)
-}
-
-fn compare(cases: Vec<Case>) -> io::Result<bool> {
-    let mut answers = vec![];
-    io::stdin().lock().read_to_end(&mut answers)?;
-    Ok(compare::Comparison::default().run(cases.into_iter(), &answers))
+/// Makes cases, or compares the answers to them, if the words ask for that.
+fn run_on<C: Asked>(words: &[&str], cases: fn(u64, usize) -> Vec<C>) -> Option<io::Result<bool>> {
+    let made = |seed: &str, rounds: &str| Some(cases(seed.parse().ok()?, rounds.parse().ok()?));
+    match words {
+        ["make", seed, rounds] => Some(print_cases(made(seed, rounds)?.iter().map(C::octets))),
+        ["compare", seed, rounds] => Some(asked::compare(&made(seed, rounds)?, io::stdin().lock())),
+        _ => None,
+    }
 }
 
 /// Does what the words ask, if they ask something; false where answers differ or the cases show too little.
 fn run(words: &[&str]) -> Option<io::Result<bool>> {
-    let made = |seed: &str, rounds: &str| Some(cases(seed.parse().ok()?, rounds.parse().ok()?));
-    Some(match words {
-        ["make", seed, rounds] => print(&case_octets(&made(seed, rounds)?)),
-        ["compare", seed, rounds] => compare(made(seed, rounds)?),
-        ["sample", "cases"] => print(&case_octets(&sample::cases())),
-        ["sample", "answers"] => print(&answer_octets(&sample::cases())),
-        _ => return None,
-    })
+    match words {
+        ["reception", words @ ..] => run_on(words, reception::cases),
+        ["sample", "cases"] => Some(print_cases(sample::octets().into_iter())),
+        ["sample", "answers"] => Some(io::stdout().write_all(&sample::answer_octets()).map(|()| true)),
+        _ => run_on(words, cases),
+    }
 }
 
 fn main() -> ExitCode {
@@ -96,7 +97,7 @@ fn main() -> ExitCode {
             ExitCode::FAILURE
         }
         None => {
-            eprintln!("usage: second make SEED ROUNDS | compare SEED ROUNDS | sample cases | sample answers");
+            eprintln!("usage: {USAGE}");
             ExitCode::from(2)
         }
     }

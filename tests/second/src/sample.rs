@@ -1,7 +1,9 @@
 //! The few cases that the program `answers` is run on by itself: crates/answers/stdin, and their answers in stdout.
 
+use crate::asked::{self, Asked};
 use crate::bench::{self, s_with, S};
 use crate::packet::Message;
+use crate::reception::sample as reception;
 use crate::sheet::Sheet;
 use crate::wire::Case;
 
@@ -45,7 +47,7 @@ fn writings(s: &Sheet) -> Vec<Case> {
     cases
 }
 
-/// Every question, with P1 to P5 among the packets and the messages.
+/// Every question about sheets and packets, with P1 to P5 among the packets and the messages.
 pub fn cases() -> Vec<Case> {
     let s = bench::sheet_s();
     let mut cases: Vec<Case> = texts().into_iter().map(|text| Case::Read(text.into_bytes())).collect();
@@ -63,6 +65,17 @@ pub fn cases() -> Vec<Case> {
     cases
 }
 
+/// Every question, each case by its octets: those above, and those of reception behind them.
+pub fn octets() -> Vec<Vec<u8>> {
+    let reception = reception::cases();
+    cases().iter().map(Asked::octets).chain(reception.iter().map(Asked::octets)).collect()
+}
+
+/// The answers to all of them.
+pub fn answer_octets() -> Vec<u8> {
+    [asked::answer_octets(&cases()), asked::answer_octets(&reception::cases())].concat()
+}
+
 #[cfg(test)]
 mod tests {
     use super::*;
@@ -74,8 +87,10 @@ mod tests {
 
     #[test]
     fn the_program_is_run_on_these_cases() {
-        assert_eq!(crate::case_octets(&cases()), file("stdin"));
-        assert_eq!(crate::answer_octets(&cases()), file("stdout"));
+        let mut written = vec![];
+        asked::write_cases(&mut written, octets().into_iter()).unwrap();
+        assert_eq!(written, file("stdin"));
+        assert_eq!(answer_octets(), file("stdout"));
     }
 
     #[test]

@@ -1,5 +1,6 @@
 //! Counts what the cases turned out to be, and says what there is too little of.
 
+use crate::asked::{self, is_enough, Wanted};
 use crate::drafts::Octets;
 use crate::messages::PAST;
 use crate::packet::{kinds, Message, Reading, Step, INDICATED};
@@ -173,8 +174,8 @@ impl Tally {
         self.counts.iter().filter(|(sort, _)| sort.starts_with(front)).map(|(_, n)| n).sum()
     }
 
-    /// What there is too little of.
-    fn missing(&self) -> Vec<String> {
+    /// All that has to be there.
+    fn wanted(&self) -> Vec<Wanted> {
         let met = |sort: &String| self.counts.get(sort).copied().unwrap_or(0);
         let each = |sorts: Vec<String>, least| sorts.into_iter().map(move |sort| (met(&sort), sort, least));
         let mut wanted = vec![
@@ -187,24 +188,20 @@ impl Tally {
         wanted.extend(each(wanted_of_packets(), LEAST_EACH));
         wanted.extend(each(wanted_of_messages(), LEAST_EACH));
         wanted.extend(each(shapes().iter().map(|shape| every_buffer(shape)).collect(), 1));
-        wanted.retain(|(met, _, least)| met < least);
-        wanted.into_iter().map(|(met, sort, least)| format!("{sort}: {met}, and not {least}")).collect()
+        wanted
     }
+}
 
-    /// Prints the counts; true where there is enough of everything.
-    pub fn print(&self) -> bool {
+impl asked::Tally for Tally {
+    fn print(&self) -> bool {
         for (sort, count) in &self.counts {
             println!("{count:8} {sort}");
-        }
-        let missing = self.missing();
-        for sort in &missing {
-            println!("too few: {sort}");
         }
         let (texts, packets, fields) = (self.sum("texts"), self.sum("packets"), self.sum("field"));
         let (messages, written) = (self.sum("messages"), self.sum("messages written"));
         let (read_under, written_under) = (self.read_under.len(), self.written_under.len());
         println!("{texts} texts of sheets; {packets} packets under {read_under} sheets; {fields} field steps");
         println!("{messages} messages to write under {written_under} sheets; {written} written and read back");
-        missing.is_empty()
+        is_enough(self.wanted())
     }
 }

@@ -1,4 +1,4 @@
-//! Cases and their answers as octets, in the form that the program `answers` reads and writes (crates/answers/src/main.rt).
+//! Cases about sheets and packets, and their answers, as octets (crates/answers/src/question.rt).
 
 use crate::packet::{self, Message, Reading, Step};
 use crate::sheet::{self, Sheet};
@@ -148,11 +148,6 @@ impl Answer<'_> {
             }
         }
     }
-
-    /// The answer as octets: a length, and that many octets.
-    pub fn octets(&self) -> Vec<u8> {
-        with_length(self.body())
-    }
 }
 
 /// A packet's answer: its message; or 0, the refusal and its place.
@@ -197,7 +192,8 @@ fn step_numbers(step: &Step) -> [u64; 5] {
     }
 }
 
-fn with_length(body: Vec<u8>) -> Vec<u8> {
+/// Octets behind their count, of four octets.
+pub fn with_length(body: Vec<u8>) -> Vec<u8> {
     [(body.len() as u32).to_be_bytes().to_vec(), body].concat()
 }
 
@@ -212,7 +208,7 @@ fn octets_of(numbers: impl IntoIterator<Item = u32>) -> Vec<u8> {
     numbers.into_iter().flat_map(u32::to_be_bytes).collect()
 }
 
-fn numbers_octets(sheet: &Sheet) -> Vec<u8> {
+pub fn numbers_octets(sheet: &Sheet) -> Vec<u8> {
     octets_of(sheet.numbers.into_iter().chain(sheet.ssrcs))
 }
 
@@ -225,13 +221,4 @@ pub fn take_number(octets: &mut &[u8]) -> Option<u32> {
     let (front, rest) = octets.split_first_chunk::<4>()?;
     *octets = rest;
     Some(u32::from_be_bytes(*front))
-}
-
-/// The next answer, behind its length, taken off the front.
-pub fn take_answer<'a>(octets: &mut &'a [u8]) -> Option<&'a [u8]> {
-    let mut rest = *octets;
-    let length = take_number(&mut rest)? as usize;
-    let (body, rest) = rest.split_at_checked(length)?;
-    *octets = rest;
-    Some(body)
 }

@@ -24,9 +24,6 @@ items-requires c κs = search needs
 loop-holds : tie.Need-loop-holds Inv-loop μ-loop
 loop-holds c = search needs
 
-mul-put : tie.Need-mul-put Inv-loop μ-loop
-mul-put c = search needs
-
 mul-step : tie.Need-mul-step Inv-loop μ-loop
 mul-step c = search needs
 
@@ -36,14 +33,11 @@ add-step c = search needs
 step-requires : tie.Need-step-requires Inv-loop μ-loop
 step-requires c κs = search needs
 
-put-said-requires : tie.Need-put-said-requires Inv-loop μ-loop
-put-said-requires c κs = search needs
+mul-put-step : tie.Need-mul-put-step Inv-loop μ-loop
+mul-put-step c = search needs
 
-add-put-records : tie.Need-add-put-records Inv-loop μ-loop
-add-put-records c = search needs
-
-put-records-requires : tie.Need-put-records-requires Inv-loop μ-loop
-put-records-requires c κs = search needs
+put-step-requires : tie.Need-put-step-requires Inv-loop μ-loop
+put-step-requires c κs = search needs
 
 add-k : tie.Need-add-k Inv-loop μ-loop
 add-k c = search needs
@@ -73,13 +67,11 @@ steps-spec =
     first-memory-requires
     items-requires
     loop-holds
-    mul-put
     mul-step
     add-step
     step-requires
-    put-said-requires
-    add-put-records
-    put-records-requires
+    mul-put-step
+    put-step-requires
     add-k
     loop-less
     loop-again

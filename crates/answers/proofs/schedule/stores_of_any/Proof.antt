@@ -33,23 +33,14 @@ add-with-attempt c = search needs
 with-attempt-requires : tie.Need-with-attempt-requires Inv-loop μ-loop
 with-attempt-requires c κs = search needs
 
+mul-put-step : tie.Need-mul-put-step Inv-loop μ-loop
+mul-put-step c = search needs
+
 stores-requires : tie.Need-stores-requires Inv-loop μ-loop
 stores-requires c κs = search needs
 
-mul-put-said : tie.Need-mul-put-said Inv-loop μ-loop
-mul-put-said c = search needs
-
-put-said-requires : tie.Need-put-said-requires Inv-loop μ-loop
-put-said-requires c κs = search needs
-
-mul-put-records : tie.Need-mul-put-records Inv-loop μ-loop
-mul-put-records c = search needs
-
-add-put-records : tie.Need-add-put-records Inv-loop μ-loop
-add-put-records c = search needs
-
-put-records-requires : tie.Need-put-records-requires Inv-loop μ-loop
-put-records-requires c κs = search needs
+put-step-requires : tie.Need-put-step-requires Inv-loop μ-loop
+put-step-requires c κs = search needs
 
 add-k : tie.Need-add-k Inv-loop μ-loop
 add-k c = search needs
@@ -82,12 +73,9 @@ stores-of-any-spec =
     mul-with-attempt
     add-with-attempt
     with-attempt-requires
+    mul-put-step
     stores-requires
-    mul-put-said
-    put-said-requires
-    mul-put-records
-    add-put-records
-    put-records-requires
+    put-step-requires
     add-k
     loop-less
     loop-again

@@ -1,0 +1,36 @@
+//! Reception: its rules from document 01, and what is asked about them: attempts, steps of two routines, whole
+//! schedules of them, and stores of any attempt.
+
+mod attempts;
+mod chance;
+mod compare;
+mod families;
+mod octets;
+mod record;
+mod routines;
+pub mod sample;
+mod schedules;
+mod serial;
+mod sorts;
+mod steps;
+mod stores;
+mod table;
+mod tally;
+mod wanted;
+mod wire;
+
+use crate::random::Random;
+pub use wire::Case;
+
+/// Every attempt, schedule and store that is thought of, then so many rounds of steps and schedules by chance.
+pub fn cases(seed: u64, rounds: usize) -> Vec<Case> {
+    let random = &mut Random::new(seed);
+    let mut cases = attempts::systematic(random);
+    cases.extend(families::systematic());
+    cases.extend(stores::systematic());
+    for _ in 0..rounds {
+        cases.push(chance::steps(random));
+        cases.push(chance::schedules(random));
+    }
+    cases
+}
