@@ -176,13 +176,14 @@ fn put_numbers(out: &mut [u8], numbers: [u32; 12]) {
     }
 }
 
+fn row_of(reading: Reading) -> [u32; 12] {
+    match reading {
+        Reading::Read(message) => numbers_of(message),
+        Reading::Refused(refusal) => [0, refusal.number, refusal.at, 0, 0, 0, 0, 0, 0, 0, 0, 0],
+    }
+}
+
 // Puts what a packet reads to at the front of out.
 pub fn put_reading(out: &mut [u8], reading: Reading) {
-    match reading {
-        Reading::Read(message) => put_numbers(out, numbers_of(message)),
-        Reading::Refused(refusal) => put_numbers(
-            out,
-            [0, refusal.number, refusal.at, 0, 0, 0, 0, 0, 0, 0, 0, 0],
-        ),
-    }
+    put_numbers(out, row_of(reading));
 }

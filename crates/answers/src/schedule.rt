@@ -41,11 +41,10 @@ struct Slot {
     attempt: Attempt,
 }
 
-// The eight records, what each routine holds, and what the last step said.
-struct Memory {
+// What a step leaves of the eight records and of its routine's slot, and what it says.
+struct Stepped {
     records: Streams,
-    packet: Slot,
-    timer: Slot,
+    slot: Slot,
     said: Said,
 }
 
@@ -80,65 +79,23 @@ pub fn attempts(body: &[u8], out: &mut [u8]) -> usize
 
 // ---- one step
 
-// Before the first step: the case's eight records; each routine holds a Free record and an attempt that changes nothing.
-fn first_memory(body: &[u8]) -> Memory {
-    let records = stream::records_in(body, value::ROWS);
-    let seen = stream::record_in(&[], 0);
-    let slot = Slot {
+// A slot with an attempt on a stream that is answered "discarded".
+fn slot_with(stream: u8, seen: Record, wanted: Record) -> Slot {
+    Slot {
         seen,
         attempt: Attempt {
-            stream: 0,
+            stream,
             seen,
-            wanted: seen,
+            wanted,
             answer: Answer::Discarded,
         },
-    };
-    Memory {
-        records,
-        packet: slot,
-        timer: slot,
-        said: [0; stream::SAID],
     }
 }
 
-fn slot_of(memory: Memory, which: u8) -> Slot {
-    if which == 0 {
-        return memory.packet;
-    }
-    memory.timer
-}
-
-// A routine holds something else, and a step said so.
-fn holding(memory: Memory, which: u8, slot: Slot, said: Said) -> Memory {
-    let records = memory.records;
-    if which == 0 {
-        let timer = memory.timer;
-        return Memory {
-            records,
-            packet: slot,
-            timer,
-            said,
-        };
-    }
-    let packet = memory.packet;
-    Memory {
-        records,
-        packet,
-        timer: slot,
-        said,
-    }
-}
-
-// A step leaves these records, and said so.
-fn leaving(memory: Memory, records: Streams, said: Said) -> Memory {
-    let packet = memory.packet;
-    let timer = memory.timer;
-    Memory {
-        records,
-        packet,
-        timer,
-        said,
-    }
+// A slot before its routine's first step: a Free record, and an attempt that changes nothing.
+fn first_slot() -> Slot {
+    let free = stream::record_in(&[], 0);
+    slot_with(0, free, free)
 }
 
 // The record that was read, or the one held before.
@@ -157,69 +114,84 @@ fn attempt_or(worked: Worked, other: Attempt) -> Attempt {
     }
 }
 
-fn reads(sheet: Sheet, memory: Memory, which: u8, stream: u8) -> Memory {
-    let records = memory.records;
-    let slot = slot_of(memory, which);
+fn reads(sheet: Sheet, records: Streams, slot: Slot, stream: u8) -> Stepped {
     let before = slot.seen;
     let attempt = slot.attempt;
     let seen = reception::read(sheet, records, stream);
     let said = stream::seen_said(stream, seen);
     let seen = record_or(seen, before);
-    holding(memory, which, Slot { seen, attempt }, said)
+    let slot = Slot { seen, attempt };
+    Stepped {
+        records,
+        slot,
+        said,
+    }
 }
 
-fn works_out(sheet: Sheet, memory: Memory, which: u8, event: Event) -> Memory {
-    let slot = slot_of(memory, which);
+fn works_out(sheet: Sheet, records: Streams, slot: Slot, event: Event) -> Stepped {
     let seen = slot.seen;
     let before = slot.attempt;
     let worked = reception::work_out(sheet, seen, event);
     let said = stream::worked_said(worked);
     let attempt = attempt_or(worked, before);
-    holding(memory, which, Slot { seen, attempt }, said)
+    let slot = Slot { seen, attempt };
+    Stepped {
+        records,
+        slot,
+        said,
+    }
 }
 
-fn stores(sheet: Sheet, memory: Memory, which: u8) -> Memory {
-    let before = memory.records;
-    let slot = slot_of(memory, which);
+fn stores(sheet: Sheet, records: Streams, slot: Slot) -> Stepped {
     let attempt = slot.attempt;
-    let stored = reception::store(sheet, attempt, before);
+    let stored = reception::store(sheet, attempt, records);
     let records = stored.records;
     let taking = stored.taking;
     let said = stream::taking_said(attempt.stream, taking);
-    leaving(memory, records, said)
+    Stepped {
+        records,
+        slot,
+        said,
+    }
 }
 
-fn counts(sheet: Sheet, memory: Memory, stream: u8) -> Memory {
-    let records = memory.records;
-    let counted = reception::count(sheet, records, stream);
-    let said = stream::counted_said(stream, counted);
-    leaving(memory, records, said)
+fn counts(sheet: Sheet, records: Streams, slot: Slot, stream: u8) -> Stepped {
+    let said = stream::counted_said(stream, reception::count(sheet, records, stream));
+    Stepped {
+        records,
+        slot,
+        said,
+    }
 }
 
-// Puts what the last step said, and the records after it.
-fn put_step(out: &mut [u8], at: usize, memory: Memory)
+// Puts what a step said, and the records after it.
+fn put_step(out: &mut [u8], at: usize, said: Said, records: Streams)
     requires { ⌜ at < 2048 ⌝ }
 {
-    let said = memory.said;
-    let records = memory.records;
     stream::put_said(out, at, said);
     stream::put_records(out, at + stream::SAID, records);
+}
+
+// Which of two slots an octet names.
+fn place_of(which: u8) -> usize
+    ensures { λ r. ⌜ r < 2 ⌝ }
+{
+    if which == 0 { 0 } else { 1 }
 }
 
 // ---- steps, each asked for by itself
 
 // One step: what is done (1 read, 2 work out, 3 store, 4 count), the routine, and the stream or the event.
-fn step(sheet: Sheet, memory: Memory, body: &[u8], at: usize) -> Memory
+fn step(sheet: Sheet, records: Streams, slot: Slot, body: &[u8], at: usize) -> Stepped
     requires { ⌜ at < 2048 ⌝ }
 {
-    let which = value::octet_at(body, at + 1);
     let event = stream::event_in(body, at + 2);
     let stream = value::octet_at(body, at + 2);
     match value::octet_at(body, at) {
-        1 => reads(sheet, memory, which, stream),
-        2 => works_out(sheet, memory, which, event),
-        3 => stores(sheet, memory, which),
-        _ => counts(sheet, memory, stream),
+        1 => reads(sheet, records, slot, stream),
+        2 => works_out(sheet, records, slot, event),
+        3 => stores(sheet, records, slot),
+        _ => counts(sheet, records, slot, stream),
     }
 }
 
@@ -228,12 +200,20 @@ pub fn steps(body: &[u8], out: &mut [u8]) -> usize
     ensures { λ r. ⌜ r ≤ 1020 ⌝ }
 {
     let sheet = value::sheet_in(body);
-    let mut memory = first_memory(body);
+    let mut records = stream::records_in(body, value::ROWS);
+    let mut slots = [first_slot(); 2];
     let n = items(body, START, STEP, question::MOST / STEP_SAID);
     let mut k = 0;
     while k < n {
-        memory = step(sheet, memory, body, START + k * STEP);
-        put_step(out, k * STEP_SAID, memory);
+        let at = START + k * STEP;
+        let place = place_of(value::octet_at(body, at + 1));
+        let slot = slots[place];
+        let done = step(sheet, records, slot, body, at);
+        let said = done.said;
+        let slot = done.slot;
+        records = done.records;
+        slots[place] = slot;
+        put_step(out, k * STEP_SAID, said, records);
         k += 1;
     }
     n * STEP_SAID
@@ -242,35 +222,35 @@ pub fn steps(body: &[u8], out: &mut [u8]) -> usize
 // ---- schedules of two events a routine
 
 // A routine stores what it worked out, or it reads an event's stream and works the event out.
-fn made(sheet: Sheet, memory: Memory, which: u8, event: Event, store: bool) -> Memory {
+fn made(sheet: Sheet, records: Streams, slot: Slot, event: Event, store: bool) -> Stepped {
     if store {
-        return stores(sheet, memory, which);
+        return stores(sheet, records, slot);
     }
-    works_out(
-        sheet,
-        reads(sheet, memory, which, event.stream),
-        which,
-        event,
-    )
+    let read = reads(sheet, records, slot, event.stream);
+    let slot = read.slot;
+    works_out(sheet, records, slot, event)
 }
 
 // One schedule, whose four events and eight moves stand at a place. Puts what the store of each event says, and the records after all.
-fn play(sheet: Sheet, start: Memory, body: &[u8], at: usize, out: &mut [u8], put: usize)
+fn play(sheet: Sheet, start: Streams, body: &[u8], at: usize, out: &mut [u8], put: usize)
     requires { ⌜ (at < 2048) × (put < 2048) ⌝ }
 {
-    let mut memory = start;
+    let mut records = start;
+    let mut slots = [first_slot(); 2];
     let mut i = 0;
     while i < MOVES {
         let next = value::octet_at(body, at + EVENTS + i);
-        let k = next / 2 % 4;
-        let place = k as usize;
-        let event = stream::event_in(body, at + place * stream::EVENT);
-        memory = made(sheet, memory, k / 2, event, next % 2 == 1);
-        let said = memory.said;
-        stream::put_said(out, put + place * stream::SAID, said);
+        let k = (next / 2 % 4) as usize;
+        let event = stream::event_in(body, at + k * stream::EVENT);
+        let slot = slots[k / 2];
+        let done = made(sheet, records, slot, event, next % 2 == 1);
+        let said = done.said;
+        let slot = done.slot;
+        records = done.records;
+        slots[k / 2] = slot;
+        stream::put_said(out, put + k * stream::SAID, said);
         i += 1;
     }
-    let records = memory.records;
     stream::put_records(out, put + 4 * stream::SAID, records);
 }
 
@@ -281,13 +261,13 @@ pub fn schedules(body: &[u8], out: &mut [u8]) -> usize
     ensures { λ r. ⌜ r ≤ 1020 ⌝ }
 {
     let sheet = value::sheet_in(body);
-    let memory = first_memory(body);
+    let records = stream::records_in(body, value::ROWS);
     let n = items(body, START, SCHEDULE, question::MOST / SCHEDULE_SAID);
     let mut k = 0;
     while k < n {
         play(
             sheet,
-            memory,
+            records,
             body,
             START + k * SCHEDULE,
             out,
@@ -300,34 +280,27 @@ pub fn schedules(body: &[u8], out: &mut [u8]) -> usize
 
 // ---- stores of any attempt
 
-// The first routine holds the attempt that stands at a place.
-fn with_attempt(memory: Memory, body: &[u8], at: usize) -> Memory
-    requires { ⌜ at < 2048 ⌝ }
-{
-    let seen = stream::record_in(body, at + 1);
-    let wanted = stream::record_in(body, at + 1 + stream::RECORD);
-    let said = memory.said;
-    let attempt = Attempt {
-        stream: value::octet_at(body, at),
-        seen,
-        wanted,
-        answer: Answer::Discarded,
-    };
-    holding(memory, 0, Slot { seen, attempt }, said)
-}
-
 // 12: stores of attempts that nobody need have worked out, whose answer is "discarded", every one into the eight records that stand behind the
 // numbers of a value. Answer: what each says, and the records after it.
 pub fn stores_of_any(body: &[u8], out: &mut [u8]) -> usize
     ensures { λ r. ⌜ r ≤ 1020 ⌝ }
 {
     let sheet = value::sheet_in(body);
-    let start = first_memory(body);
+    let start = stream::records_in(body, value::ROWS);
     let n = items(body, START, ATTEMPT, question::MOST / STEP_SAID);
     let mut k = 0;
     while k < n {
-        let memory = with_attempt(start, body, START + k * ATTEMPT);
-        put_step(out, k * STEP_SAID, stores(sheet, memory, 0));
+        let at = START + k * ATTEMPT;
+        let seen = stream::record_in(body, at + 1);
+        let wanted = stream::record_in(body, at + 1 + stream::RECORD);
+        let done = stores(
+            sheet,
+            start,
+            slot_with(value::octet_at(body, at), seen, wanted),
+        );
+        let said = done.said;
+        let records = done.records;
+        put_step(out, k * STEP_SAID, said, records);
         k += 1;
     }
     n * STEP_SAID

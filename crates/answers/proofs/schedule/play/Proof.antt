@@ -1,16 +1,19 @@
 -- `answers::schedule::play` is safe and ends: a put leaves out as long as it was. Assumes nothing.
 use mathlib.Core.Path.{_≡_}
 use Prim.Native.Nat.{_≤_, _-_}
-use lib.ListN.{length}
+use lib.ListN.{length, length-set}
 use borrow.Author.Needs.{needs}
 use Rattle.answers.proofs.schedule.play.Statement.{statement}
 use Rattle.answers.proofs.schedule.play.Tie as tie
 
 abbrev Inv-loop : tie.InvT-loop
-Inv-loop sheet body at out₀ put memory₀ i₀ out memory i = (i ≤ 8) × (length out ≡ length out₀)
+Inv-loop sheet body at out₀ put records₀ slots₀ i₀ out records slots i = (i ≤ 8) × (length slots ≡ 2) × (length out ≡ length out₀)
 
 abbrev μ-loop : tie.MeasureT-loop
-μ-loop sheet body at out₀ put memory₀ i₀ out memory i = 8 - i
+μ-loop sheet body at out₀ put records₀ slots₀ i₀ out records slots i = 8 - i
+
+first-slot-requires : tie.Need-first-slot-requires Inv-loop μ-loop
+first-slot-requires c κs = search needs
 
 loop-holds : tie.Need-loop-holds Inv-loop μ-loop
 loop-holds c = search needs
@@ -24,8 +27,8 @@ add-octet-at-2 c = search needs
 octet-at-requires : tie.Need-octet-at-requires Inv-loop μ-loop
 octet-at-requires c κs = search needs
 
-cast-place : tie.Need-cast-place Inv-loop μ-loop
-cast-place c = search needs
+cast-k : tie.Need-cast-k Inv-loop μ-loop
+cast-k c = search needs
 
 mul-event-in : tie.Need-mul-event-in Inv-loop μ-loop
 mul-event-in c = search needs
@@ -36,8 +39,20 @@ add-event-in c = search needs
 event-in-requires : tie.Need-event-in-requires Inv-loop μ-loop
 event-in-requires c κs = search needs
 
+mul-slot : tie.Need-mul-slot Inv-loop μ-loop
+mul-slot c = search needs
+
+array-copy-out-slot : tie.Need-array-copy-out-slot Inv-loop μ-loop
+array-copy-out-slot c = search needs
+
 made-requires : tie.Need-made-requires Inv-loop μ-loop
 made-requires c κs = search needs
+
+mul-slots : tie.Need-mul-slots Inv-loop μ-loop
+mul-slots c = search needs
+
+array-set-from-slots : tie.Need-array-set-from-slots Inv-loop μ-loop
+array-set-from-slots c = search needs
 
 mul-put-said : tie.Need-mul-put-said Inv-loop μ-loop
 mul-put-said c = search needs
@@ -55,7 +70,7 @@ loop-less : tie.Need-loop-less Inv-loop μ-loop
 loop-less c = search needs
 
 loop-again : tie.Need-loop-again Inv-loop μ-loop
-loop-again c = search needs
+loop-again c = (search needs, rw length-set (search needs), search needs)
 
 mul-put-records : tie.Need-mul-put-records Inv-loop μ-loop
 mul-put-records c = search needs
@@ -78,15 +93,20 @@ play-spec =
     (tie.spec
     Inv-loop
     μ-loop
+    first-slot-requires
     loop-holds
     add-octet-at
     add-octet-at-2
     octet-at-requires
-    cast-place
+    cast-k
     mul-event-in
     add-event-in
     event-in-requires
+    mul-slot
+    array-copy-out-slot
     made-requires
+    mul-slots
+    array-set-from-slots
     mul-put-said
     add-put-said
     put-said-requires

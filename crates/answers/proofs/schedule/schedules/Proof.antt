@@ -7,16 +7,16 @@ use Rattle.answers.proofs.schedule.schedules.Statement.{statement}
 use Rattle.answers.proofs.schedule.schedules.Tie as tie
 
 abbrev Inv-loop : tie.InvT-loop
-Inv-loop body out₀ sheet memory n k₀ out k = (k ≤ n) × (length out ≡ length out₀)
+Inv-loop body out₀ sheet records n k₀ out k = (k ≤ n) × (length out ≡ length out₀)
 
 abbrev μ-loop : tie.MeasureT-loop
-μ-loop body out₀ sheet memory n k₀ out k = n - k
+μ-loop body out₀ sheet records n k₀ out k = n - k
 
 sheet-in-requires : tie.Need-sheet-in-requires Inv-loop μ-loop
 sheet-in-requires c κs = search needs
 
-first-memory-requires : tie.Need-first-memory-requires Inv-loop μ-loop
-first-memory-requires c κs = search needs
+records-in-requires : tie.Need-records-in-requires Inv-loop μ-loop
+records-in-requires c κs = search needs
 
 items-requires : tie.Need-items-requires Inv-loop μ-loop
 items-requires c κs = search needs
@@ -61,7 +61,7 @@ schedules-spec =
     Inv-loop
     μ-loop
     sheet-in-requires
-    first-memory-requires
+    records-in-requires
     items-requires
     loop-holds
     mul-play

@@ -7,16 +7,19 @@ use Rattle.answers.proofs.schedule.steps.Statement.{statement}
 use Rattle.answers.proofs.schedule.steps.Tie as tie
 
 abbrev Inv-loop : tie.InvT-loop
-Inv-loop body out₀ sheet memory₀ n k₀ out memory k = (k ≤ n) × (length out ≡ length out₀)
+Inv-loop body out₀ sheet records₀ slots₀ n k₀ out records slots k = (k ≤ n) × (length slots ≡ 2) × (length out ≡ length out₀)
 
 abbrev μ-loop : tie.MeasureT-loop
-μ-loop body out₀ sheet memory₀ n k₀ out memory k = n - k
+μ-loop body out₀ sheet records₀ slots₀ n k₀ out records slots k = n - k
 
 sheet-in-requires : tie.Need-sheet-in-requires Inv-loop μ-loop
 sheet-in-requires c κs = search needs
 
-first-memory-requires : tie.Need-first-memory-requires Inv-loop μ-loop
-first-memory-requires c κs = search needs
+records-in-requires : tie.Need-records-in-requires Inv-loop μ-loop
+records-in-requires c κs = search needs
+
+first-slot-requires : tie.Need-first-slot-requires Inv-loop μ-loop
+first-slot-requires c κs = search needs
 
 items-requires : tie.Need-items-requires Inv-loop μ-loop
 items-requires c κs = search needs
@@ -24,14 +27,35 @@ items-requires c κs = search needs
 loop-holds : tie.Need-loop-holds Inv-loop μ-loop
 loop-holds c = search needs
 
-mul-step : tie.Need-mul-step Inv-loop μ-loop
-mul-step c = search needs
+mul-at : tie.Need-mul-at Inv-loop μ-loop
+mul-at c = search needs
 
-add-step : tie.Need-add-step Inv-loop μ-loop
-add-step c = search needs
+add-at : tie.Need-add-at Inv-loop μ-loop
+add-at c = search needs
+
+add-octet-at : tie.Need-add-octet-at Inv-loop μ-loop
+add-octet-at c = search needs
+
+octet-at-requires : tie.Need-octet-at-requires Inv-loop μ-loop
+octet-at-requires c κs = search needs
+
+place-of-requires : tie.Need-place-of-requires Inv-loop μ-loop
+place-of-requires c κs = search needs
+
+mul-slot : tie.Need-mul-slot Inv-loop μ-loop
+mul-slot c = search needs
+
+array-copy-out-slot : tie.Need-array-copy-out-slot Inv-loop μ-loop
+array-copy-out-slot c = search needs
 
 step-requires : tie.Need-step-requires Inv-loop μ-loop
 step-requires c κs = search needs
+
+mul-slots : tie.Need-mul-slots Inv-loop μ-loop
+mul-slots c = search needs
+
+array-set-from-slots : tie.Need-array-set-from-slots Inv-loop μ-loop
+array-set-from-slots c = search needs
 
 mul-put-step : tie.Need-mul-put-step Inv-loop μ-loop
 mul-put-step c = search needs
@@ -64,12 +88,20 @@ steps-spec =
     Inv-loop
     μ-loop
     sheet-in-requires
-    first-memory-requires
+    records-in-requires
+    first-slot-requires
     items-requires
     loop-holds
-    mul-step
-    add-step
+    mul-at
+    add-at
+    add-octet-at
+    octet-at-requires
+    place-of-requires
+    mul-slot
+    array-copy-out-slot
     step-requires
+    mul-slots
+    array-set-from-slots
     mul-put-step
     put-step-requires
     add-k

@@ -15,8 +15,8 @@ abbrev μ-loop : tie.MeasureT-loop
 sheet-in-requires : tie.Need-sheet-in-requires Inv-loop μ-loop
 sheet-in-requires c κs = search needs
 
-first-memory-requires : tie.Need-first-memory-requires Inv-loop μ-loop
-first-memory-requires c κs = search needs
+records-in-requires : tie.Need-records-in-requires Inv-loop μ-loop
+records-in-requires c κs = search needs
 
 items-requires : tie.Need-items-requires Inv-loop μ-loop
 items-requires c κs = search needs
@@ -24,20 +24,38 @@ items-requires c κs = search needs
 loop-holds : tie.Need-loop-holds Inv-loop μ-loop
 loop-holds c = search needs
 
-mul-with-attempt : tie.Need-mul-with-attempt Inv-loop μ-loop
-mul-with-attempt c = search needs
+mul-at : tie.Need-mul-at Inv-loop μ-loop
+mul-at c = search needs
 
-add-with-attempt : tie.Need-add-with-attempt Inv-loop μ-loop
-add-with-attempt c = search needs
+add-at : tie.Need-add-at Inv-loop μ-loop
+add-at c = search needs
 
-with-attempt-requires : tie.Need-with-attempt-requires Inv-loop μ-loop
-with-attempt-requires c κs = search needs
+add-record-in : tie.Need-add-record-in Inv-loop μ-loop
+add-record-in c = search needs
 
-mul-put-step : tie.Need-mul-put-step Inv-loop μ-loop
-mul-put-step c = search needs
+record-in-requires : tie.Need-record-in-requires Inv-loop μ-loop
+record-in-requires c κs = search needs
+
+add-record-in-2 : tie.Need-add-record-in-2 Inv-loop μ-loop
+add-record-in-2 c = search needs
+
+add-record-in-3 : tie.Need-add-record-in-3 Inv-loop μ-loop
+add-record-in-3 c = search needs
+
+record-in-requires-2 : tie.Need-record-in-requires-2 Inv-loop μ-loop
+record-in-requires-2 c κs = search needs
+
+octet-at-requires : tie.Need-octet-at-requires Inv-loop μ-loop
+octet-at-requires c κs = search needs
+
+slot-with-requires : tie.Need-slot-with-requires Inv-loop μ-loop
+slot-with-requires c κs = search needs
 
 stores-requires : tie.Need-stores-requires Inv-loop μ-loop
 stores-requires c κs = search needs
+
+mul-put-step : tie.Need-mul-put-step Inv-loop μ-loop
+mul-put-step c = search needs
 
 put-step-requires : tie.Need-put-step-requires Inv-loop μ-loop
 put-step-requires c κs = search needs
@@ -67,14 +85,20 @@ stores-of-any-spec =
     Inv-loop
     μ-loop
     sheet-in-requires
-    first-memory-requires
+    records-in-requires
     items-requires
     loop-holds
-    mul-with-attempt
-    add-with-attempt
-    with-attempt-requires
-    mul-put-step
+    mul-at
+    add-at
+    add-record-in
+    record-in-requires
+    add-record-in-2
+    add-record-in-3
+    record-in-requires-2
+    octet-at-requires
+    slot-with-requires
     stores-requires
+    mul-put-step
     put-step-requires
     add-k
     loop-less
