@@ -15,13 +15,13 @@ pub data Done : Type 0 where
   granted : Done
   rejected : Done
   ended : Done
-  opened : Done
   endRequested : Done
   freed : Done
+  opened : Done
   released : Done
   discarded : Done
 
--- its number, and whether it was that which was done
+-- by its number, which tells one from another
 abbrev pub doneNumber : Done → ℕ
 doneNumber granted = 1
 doneNumber rejected = 2
@@ -32,6 +32,7 @@ doneNumber opened = 6
 doneNumber released = 7
 doneNumber discarded = 8
 
+-- this was done
 abbrev pub was : Done → Done → Bool
 was d done = eqb (doneNumber done) (doneNumber d)
 

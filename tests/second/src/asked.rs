@@ -86,8 +86,26 @@ pub fn compare<C: Asked>(cases: &[C], mut answers: impl Read) -> io::Result<bool
 }
 
 #[cfg(test)]
-mod tests {
+pub mod tests {
     use super::*;
+    use crate::drafts::replaced;
+
+    fn differs(case: &impl Asked, got: Option<&[u8]>) -> bool {
+        case.judge(&mut Default::default(), got).is_some()
+    }
+
+    /// Every octet of each answer counts, and so does its length.
+    pub fn every_octet_counts<C: Asked>(cases: &[C]) {
+        for case in cases {
+            let body = case.expected();
+            assert!(!differs(case, Some(&body)));
+            for (at, octet) in body.iter().enumerate() {
+                assert!(differs(case, Some(&replaced(&body, at, !octet))), "octet {at} of {:?}", case.octets());
+            }
+            assert!(differs(case, Some(&body[1..])) && differs(case, Some(&[&body[..], &[0]].concat())));
+            assert!(differs(case, None));
+        }
+    }
 
     /// A case whose answer is one octet.
     struct Octet(u8);

@@ -61,26 +61,14 @@ impl Asked for Case {
 #[cfg(test)]
 mod tests {
     use super::*;
+    use crate::asked::tests::every_octet_counts;
     use crate::bench::{messages, sheet_s, NAMES};
-    use crate::drafts::replaced;
     use crate::packet::Message;
     use crate::sample;
 
-    fn differs(case: &Case, got: Option<&[u8]>) -> bool {
-        case.judge(&mut Tally::default(), got).is_some()
-    }
-
     #[test]
     fn every_octet_of_an_answer_counts() {
-        for case in sample::cases() {
-            let body = case.answer().body();
-            assert!(!differs(&case, Some(&body)));
-            for (at, octet) in body.iter().enumerate() {
-                assert!(differs(&case, Some(&replaced(&body, at, !octet))), "octet {at} of {}", asked(&case));
-            }
-            assert!(differs(&case, Some(&body[1..])) && differs(&case, Some(&[&body[..], &[0]].concat())));
-            assert!(differs(&case, None));
-        }
+        every_octet_counts(&sample::cases());
     }
 
     #[test]

@@ -72,11 +72,11 @@ taken-snoc s [] x m = append-nil (takenAt s x m)
 taken-snoc s (y ∷ ys) x m = rw (taken-snoc s ys x (after s y m), append-assoc)
 
 -- of events run one after another the last has the table's answer on the records that the others leave
-serially-last : (q : Rules) (ts : List Answered) (t : Answered) (rs : List Record) → ts ++ (t ∷ []) ≡ answersInTurn q (events (ts ++ (t ∷ []))) rs
+in-turn-last : (q : Rules) (ts : List Answered) (t : Answered) (rs : List Record) → ts ++ (t ∷ []) ≡ answersInTurn q (events (ts ++ (t ∷ []))) rs
     → t .reply ≡ ruled q (t .event) (recordsInTurn q (events ts) rs) .reply
 unfolding recordsInTurn answersInTurn
-serially-last q [] t rs p = cc
-serially-last q (u ∷ us) t rs p = serially-last q us t (next q (u .event) rs) (cc)
+in-turn-last q [] t rs p = cc
+in-turn-last q (u ∷ us) t rs p = in-turn-last q us t (next q (u .event) rs) (cc)
 
 -- By the serial order of the schedule with this store as its last step: its answer is the table's, which grants nothing on Ending.
 pub no-accident : NoAccident
@@ -87,7 +87,7 @@ no-accident s rs before by a e reply h w p g =
     let t : Answered = record { event = e; reply = reply } in
     let took : taken s (before ++ (stores by a e ∷ [])) (start rs) ≡ ts ++ (t ∷ []) = taken-snoc s before (stores by a e) (start rs) ∙ rw p in
     let order = serial-order s rs (before ++ (stores by a e ∷ [])) (all-snoc (WorkedOut s) before (stores by a e) h w) in
-    let last = serially-last (rulesOf s) ts t rs (rw took at (order .1)) in
+    let last = in-turn-last (rulesOf s) ts t rs (rw took at (order .1)) in
     let left = serial-order s rs before h .0 in
     let same = attempt-gives s (w .0) e a (w .1) .same in
     let stream : e .stream ≡ a .stream = cc in

@@ -63,27 +63,16 @@ impl Asked for Case {
 #[cfg(test)]
 mod tests {
     use super::*;
+    use crate::asked::tests::every_octet_counts;
     use crate::bench::sheet_s;
     use crate::drafts::replaced;
     use crate::reception::families::{start, P13};
     use crate::reception::record::IDLE;
     use crate::reception::{octets, sample};
 
-    fn differs(case: &Case, got: Option<&[u8]>) -> bool {
-        case.judge(&mut Tally::default(), got).is_some()
-    }
-
     #[test]
     fn every_octet_of_an_answer_counts() {
-        for case in sample::cases() {
-            let body = case.expected();
-            assert!(!differs(&case, Some(&body)));
-            for (at, octet) in body.iter().enumerate() {
-                assert!(differs(&case, Some(&replaced(&body, at, !octet))), "octet {at}");
-            }
-            assert!(differs(&case, Some(&body[1..])) && differs(&case, Some(&[&body[..], &[0]].concat())));
-            assert!(differs(&case, None));
-        }
+        every_octet_counts(&sample::cases());
     }
 
     #[test]

@@ -62,27 +62,33 @@ fn refused() -> Vec<(Record, Event)> {
     attempts
 }
 
-/// P13 by its steps, and behind them: a store once more, a working out that is refused and leaves its slot, counts, and
-/// the first attempt of a slot.
-fn steps() -> Vec<Step> {
+/// P13 by its steps, up to the store that is stale.
+pub fn up_to_the_stale_store() -> Vec<Step> {
     let [request, _, t11, _] = P13.events;
     vec![
-        Step::Store { slot: 0 },
         Step::Read { slot: 0, stream: 0 },
         Step::WorkOut { slot: 0, event: request },
         Step::Read { slot: 1, stream: 0 },
         Step::WorkOut { slot: 1, event: t11 },
         Step::Store { slot: 1 },
         Step::Store { slot: 0 },
+    ]
+}
+
+/// The first attempt of a slot, P13 by its steps, and behind them: a store once more, a working-out that is refused
+/// and leaves its slot, and counts.
+fn steps() -> Vec<Step> {
+    let behind = [
         Step::Read { slot: 0, stream: 0 },
-        Step::WorkOut { slot: 0, event: request },
+        Step::WorkOut { slot: 0, event: P13.events[0] },
         Step::Store { slot: 0 },
         Step::WorkOut { slot: 0, event: NO_EVENT },
         Step::Store { slot: 0 },
         Step::Store { slot: 1 },
         Step::Count { slot: 1, stream: 1 },
         Step::Count { slot: 1, stream: 3 },
-    ]
+    ];
+    [&[Step::Store { slot: 0 }][..], &up_to_the_stale_store(), &behind].concat()
 }
 
 /// P13, and one whose last read is refused, so that T11 is stored again.

@@ -76,6 +76,7 @@ mod tests {
     use crate::bench::sheet_s;
     use crate::reception::families::{start, NO_EVENT, P13, P13_SAID};
     use crate::reception::record::{ENDING, IDLE};
+    use crate::reception::sample::up_to_the_stale_store;
     use crate::reception::schedules::Schedule;
     use crate::reception::table::{Done, What};
 
@@ -111,16 +112,7 @@ mod tests {
 
     #[test]
     fn steps_that_are_wrong() {
-        let [request, _, t11, _] = P13.events;
-        let steps = vec![
-            Step::Read { slot: 0, stream: 0 },
-            Step::WorkOut { slot: 0, event: request },
-            Step::Read { slot: 1, stream: 0 },
-            Step::WorkOut { slot: 1, event: t11 },
-            Step::Store { slot: 1 },
-            Step::Store { slot: 0 },
-        ];
-        let case = Case::Steps(sheet_s(), start(IDLE), steps);
+        let case = Case::Steps(sheet_s(), start(IDLE), up_to_the_stale_store());
         let good = case.answers().body();
         assert_eq!(wrong(&case, &good), None);
         let stored_stale = with(&good, 5 * STEP, &GRANT);
