@@ -12,7 +12,7 @@ use Rattle.octets.specs.Choice.{every, keep, some-of}
 use Rattle.sheet.specs.declared.Sheet.{Sheet}
 use Rattle.sheet.specs.Judge.{userId}
 use Rattle.packet.specs.declared.field.Field.{Field}
-use Rattle.packet.specs.declared.kind.Numbers.{Numbers}
+use Rattle.packet.specs.declared.Numbers.{Numbers}
 use Rattle.packet.specs.Header.{firstField, sizeRight, headRight, ackAsked, ssrcIn}
 use Rattle.packet.specs.Walk.{fieldsOf, stopFrom, whole}
 use Rattle.packet.specs.Layout.{Content, laid, laidAll, idRight, idsRight, contentsOf}

@@ -12,7 +12,7 @@ use Rattle.octets.specs.Buffer.{padded}
 use Rattle.octets.specs.Big.{bigAt}
 use Rattle.packet.specs.declared.Head.{Head}
 use Rattle.packet.specs.declared.field.Field.{Field}
-use Rattle.packet.specs.declared.kind.Numbers.{Numbers}
+use Rattle.packet.specs.declared.Numbers.{Numbers}
 use Rattle.packet.specs.declared.kind.Form.the-variants.{Barred}
 use Rattle.packet.specs.declared.kind.Slot.{Slot}
 use Rattle.packet.specs.declared.judge.Judged.{Judged}

@@ -8,7 +8,7 @@ use lib.Dec.{eqb}
 use Rattle.octets.specs.Choice.{pick, same, first-by}
 use Rattle.octets.specs.Text.{ascii}
 use Rattle.sheet.specs.declared.Sheet.{Sheet}
-use Rattle.packet.specs.declared.kind.Numbers.{Numbers}
+use Rattle.packet.specs.declared.Numbers.{Numbers}
 use Rattle.packet.specs.declared.kind.Form.{Form}
 use Rattle.packet.specs.declared.kind.Form.the-variants.{UserId, Number, Cause, Result, MessageType, Barred}
 use Rattle.packet.specs.declared.kind.Slot.{Slot}

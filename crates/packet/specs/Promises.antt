@@ -3,14 +3,30 @@
 use mathlib.Core.Path.{_≡_}
 use Prim.Native.Nat.{ℕ}
 use mathlib.Core.List.{List}
-use Rattle.octets.specs.Promises.{one-answer}
+use Rattle.octets.specs.Promises.{one-answer, one-value}
 use Rattle.sheet.specs.declared.Sheet.{Sheet}
+use Rattle.packet.specs.declared.Numbers.{Numbers}
 use Rattle.packet.specs.declared.Reading.{Reading}
 use Rattle.packet.specs.declared.field.Step.{Step}
 use Rattle.packet.specs.Walk.{stepOf}
-use Rattle.packet.specs.Reading.{readOf}
+use Rattle.packet.specs.Kind.{numbersOf}
+use Rattle.packet.specs.Reading.{readBy, readOf}
 use Rattle.packet.specs.Message.{readSaid, stepSaid}
 use Rattle.packet.specs.Apart.{reading-apart, step-apart}
+
+-- what the reader looks at of a sheet
+abbrev pub numbers-of≡ : Sheet → Numbers → Type 0
+numbers-of≡ sheet r = r ≡ numbersOf sheet
+
+pub numbers-of-once : (sheet : Sheet) (x y : Numbers) → numbers-of≡ sheet x → numbers-of≡ sheet y → x ≡ y
+numbers-of-once sheet x y e f = one-value x y e f
+
+-- the message under these numbers, or the refusal
+abbrev pub read-by≡ : Numbers → List ℕ → Reading → Type 0
+read-by≡ n p r = readSaid r ≡ readBy n p
+
+pub read-by-once : (n : Numbers) (p : List ℕ) (x y : Reading) → read-by≡ n p x → read-by≡ n p y → x ≡ y
+read-by-once n p x y e f = one-answer readSaid reading-apart x y e f
 
 -- the message, or the refusal
 abbrev pub read≡ : Sheet → List ℕ → Reading → Type 0

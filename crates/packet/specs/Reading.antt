@@ -7,7 +7,7 @@ use mathlib.Core.Option.{Option, none, some}
 use Rattle.octets.specs.Choice.{pick}
 use Rattle.sheet.specs.declared.Sheet.{Sheet}
 use Rattle.sheet.specs.Value.{validAlone}
-use Rattle.packet.specs.declared.kind.Numbers.{Numbers}
+use Rattle.packet.specs.declared.Numbers.{Numbers}
 use Rattle.packet.specs.declared.kind.Slot.{Slot}
 use Rattle.packet.specs.Header.{sizeRight, headRight, ackAsked, ssrcIn}
 use Rattle.packet.specs.Walk.{fieldsOf, whole}

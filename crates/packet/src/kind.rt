@@ -1,4 +1,5 @@
 // The seven messages and the fields of each (document 01, "Packet").
+use super::Numbers;
 use super::codes::INDICATOR;
 use super::codes::MCV0;
 use super::codes::MCV1;
@@ -7,24 +8,11 @@ use super::codes::MESSAGE_TYPE;
 use super::codes::REJECT_CAUSE;
 use super::codes::SOURCE;
 use super::codes::USER_ID;
-use sheet::Sheet;
 ghost use mathlib.Core.Path.{_≡_};
 ghost use Prim.Native.Nat.{_<_, _≤_};
 ghost use lib.ListN.{length};
-ghost use Rattle.packet.specs.Kind.{row, unlessGranted, settled, kindOf, numbersOf};
+ghost use Rattle.packet.specs.Kind.{row, unlessGranted, settled, kindOf};
 ghost use Rattle.packet.specs.Inner.{mcv2Kind, kindNumbered, slotsNumbered};
-
-// What the reader looks at of a sheet.
-pub struct Numbers {
-    pub request: u32,
-    pub response: u32,
-    pub endrequest: u32,
-    pub endresponse: u32,
-    pub txend: u32,
-    pub txendresponse: u32,
-    pub ack: u32,
-    pub resultid: u32,
-}
 
 // The forms of a field's value. Nothing fits where it is barred.
 pub enum Form {
@@ -50,22 +38,6 @@ pub type Slots = [Slot; SLOTS];
 
 // No field has this ID.
 const UNUSED: u32 = 256;
-
-// The numbers of a sheet.
-pub fn numbers_of(sheet: Sheet) -> Numbers
-    ensures { λ r. ⌜ r ≡ numbersOf sheet ⌝ }
-{
-    Numbers {
-        request: sheet.request,
-        response: sheet.response,
-        endrequest: sheet.endrequest,
-        endresponse: sheet.endresponse,
-        txend: sheet.txend,
-        txendresponse: sheet.txendresponse,
-        ack: sheet.ack,
-        resultid: sheet.resultid,
-    }
-}
 
 // The kind of MCV2 with a number, or 0.
 fn mcv2_kind(n: Numbers, number: u32) -> u32

@@ -7,15 +7,26 @@ mod kind;
 mod values;
 mod walk;
 
-use kind::Numbers;
 use sheet::Refusal;
 use sheet::Sheet;
 ghost use mathlib.Core.Path.{_≡_};
 ghost use Prim.Native.Nat.{_<_};
-ghost use Rattle.packet.specs.Reading.{refused, readAs, readBy};
+ghost use Rattle.packet.specs.Reading.{refused, readAs};
 ghost use Rattle.packet.specs.Message.{readSaid};
 ghost use Rattle.packet.specs.Inner.{headIn, Walked, kindNumbered};
-ghost use Rattle.packet.specs.Promises.{read≡};
+ghost use Rattle.packet.specs.Promises.{numbers-of≡, read-by≡, read≡};
+
+// What the reader looks at of a sheet.
+pub struct Numbers {
+    pub request: u32,
+    pub response: u32,
+    pub endrequest: u32,
+    pub endresponse: u32,
+    pub txend: u32,
+    pub txendresponse: u32,
+    pub ack: u32,
+    pub resultid: u32,
+}
 
 // What every message has: its sender's SSRC, and whether it asks for an Ack.
 pub struct Head {
@@ -84,6 +95,22 @@ pub enum Reading {
     Refused(Refusal),
 }
 
+// What the reader looks at of a sheet.
+pub fn numbers_of(sheet: Sheet) -> Numbers
+    ensures { λ r. ⌜ numbers-of≡ sheet r ⌝ }
+{
+    Numbers {
+        request: sheet.request,
+        response: sheet.response,
+        endrequest: sheet.endrequest,
+        endresponse: sheet.endresponse,
+        txend: sheet.txend,
+        txendresponse: sheet.txendresponse,
+        ack: sheet.ack,
+        resultid: sheet.resultid,
+    }
+}
+
 // A refusal by its number alone.
 fn refused(number: u32) -> Reading
     ensures { λ r. ⌜ readSaid r ≡ refused number 0 ⌝ }
@@ -105,9 +132,9 @@ fn read_kind(numbers: Numbers, packet: &[u8], kind: u32, head: Head) -> Reading
     Reading::Read(values::message_of(packet, kind, head, places))
 }
 
-// The message of a packet under these numbers, or 1, 2, 3, 4 or 5.
-fn read_by(numbers: Numbers, packet: &[u8]) -> Reading
-    ensures { λ r. ⌜ readSaid r ≡ readBy numbers (now (packet .entry)) ⌝ }
+// Reads a packet under these numbers: a message, or 1, 2, 3, 4 or 5, checked in that order. Whether a sheet has them is not asked.
+pub fn read_by(numbers: Numbers, packet: &[u8]) -> Reading
+    ensures { λ r. ⌜ read-by≡ numbers (now (packet .entry)) r ⌝ }
 {
     if !header::is_size_right(packet) {
         return refused(1);
@@ -134,5 +161,5 @@ pub fn read(sheet: Sheet, packet: &[u8]) -> Reading
     if !sheet::numbers::are_valid(&numbers) {
         return refused(12);
     }
-    read_by(kind::numbers_of(sheet), packet)
+    read_by(numbers_of(sheet), packet)
 }

@@ -6,4 +6,3 @@ pub mod Rules
 pub mod Stores
 pub mod Serial
 pub mod History
-pub mod P13

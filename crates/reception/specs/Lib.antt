@@ -8,4 +8,3 @@ pub mod History
 pub mod Inner
 pub mod Promises
 pub mod Claims
-pub mod P13

@@ -4,6 +4,8 @@ use mathlib.Core.Path.{_≡_, refl}
 use Prim.Native.Nat.{ℕ}
 use mathlib.Core.Bool.{Bool}
 use mathlib.Core.List.{List, _++_}
+use lib.ListN.{length}
+use Rattle.octets.specs.Choice.{same}
 use Rattle.octets.specs.Promises.{one-answer, one-value}
 use Rattle.sheet.specs.declared.Sheet.{Sheet}
 use Rattle.sheet.specs.declared.Reading.{Reading}
@@ -11,7 +13,7 @@ use Rattle.sheet.specs.declared.Senders.{Senders}
 use Rattle.sheet.specs.declared.Found.{Found}
 use Rattle.sheet.specs.declared.Found.the-variants.{Seat, Nobody}
 use Rattle.sheet.specs.Judge.{userId}
-use Rattle.sheet.specs.Value.{readOf, usersIn, numbersOf, sheetFrom, validAlone, validWith}
+use Rattle.sheet.specs.Value.{readOf, usersIn, nameOf, numbersOf, sheetFrom, validAlone, validWith}
 use Rattle.sheet.specs.Find.{foundSaid, seatOfSsrc, seatOfUser}
 
 -- the value and the octets used, or 12 with its line
@@ -56,12 +58,33 @@ are-valid≡ numbers r = r ≡ validAlone (sheetFrom numbers)
 pub are-valid-once : (numbers : List ℕ) (x y : Bool) → are-valid≡ numbers x → are-valid≡ numbers y → x ≡ y
 are-valid-once numbers x y p q = one-value x y p q
 
+-- .. and to these User IDs
+abbrev pub are-valid-with≡ : List ℕ → List (List ℕ) → Bool → Type 0
+are-valid-with≡ numbers users r = r ≡ validWith (sheetFrom numbers) users
+
+pub are-valid-with-once : (numbers : List ℕ) (users : List (List ℕ)) (x y : Bool) → are-valid-with≡ numbers users x → are-valid-with≡ numbers users y → x ≡ y
+are-valid-with-once numbers users x y p q = one-value x y p q
+
 -- these octets can be a User ID
 abbrev pub is-user-id≡ : List ℕ → Bool → Type 0
 is-user-id≡ name r = r ≡ userId name
 
 pub is-user-id-once : (name : List ℕ) (x y : Bool) → is-user-id≡ name x → is-user-id≡ name y → x ≡ y
 is-user-id-once name x y p q = one-value x y p q
+
+-- how many octets the User ID in a row has
+abbrev pub name-length≡ : List ℕ → ℕ → Type 0
+name-length≡ row r = r ≡ length (nameOf row)
+
+pub name-length-once : (row : List ℕ) (x y : ℕ) → name-length≡ row x → name-length≡ row y → x ≡ y
+name-length-once row x y p q = one-value x y p q
+
+-- the User ID in a row is this name
+abbrev pub has-name≡ : List ℕ → List ℕ → Bool → Type 0
+has-name≡ row name r = r ≡ same (nameOf row) name
+
+pub has-name-once : (row name : List ℕ) (x y : Bool) → has-name≡ row name x → has-name≡ row name y → x ≡ y
+has-name-once row name x y p q = one-value x y p q
 
 -- two answers that say the same are the same
 pub found-apart : (x y : Found) → foundSaid x ≡ foundSaid y → x ≡ y

@@ -3,7 +3,7 @@ use super::Found;
 use super::SEATS;
 use super::Senders;
 use super::Users;
-use super::seat::has_name;
+use super::user::has_name;
 ghost use Rattle.sheet.specs.Promises.{by-ssrc≡, by-user≡};
 
 // Seats count from 0 up to this.

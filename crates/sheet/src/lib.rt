@@ -97,17 +97,5 @@ pub fn valid_with(sheet: Sheet, users: &Users) -> bool
     ensures { λ r. ⌜ valid-with≡ sheet (now (users .entry)) r ⌝ }
 {
     let numbers = numbers::numbers_of(sheet);
-    if !numbers::are_valid(&numbers) {
-        return false;
-    }
-    let seats = sheet.seats;
-    let rows = &users[..];
-    let mut s = 0;
-    while s < rows.len() {
-        if !seat::is_good_row(users, s, seats) {
-            return false;
-        }
-        s += 1;
-    }
-    true
+    numbers::are_valid_with(&numbers, users)
 }

@@ -2,15 +2,19 @@
 // them out once, has them judged, and looks at them there.
 use super::MOST_SEATS;
 use super::Sheet;
+use super::Users;
 use super::number::is_good_number;
+use super::seat::is_good_row;
 use super::table::LINES;
 use super::table::NUMBER_LINES;
 use super::table::SEATS_LINE;
-ghost use Rattle.sheet.specs.Promises.{numbers-of≡, are-valid≡};
+ghost use Rattle.sheet.specs.Promises.{numbers-of≡, are-valid≡, are-valid-with≡};
 
 pub type Numbers = [u32; LINES];
 
-// The lines of the messages' numbers, and of the Result's ID, counted from 0.
+// The lines of the server's SSRC, of the messages' numbers and of the Result's ID, counted from 0.
+pub const SERVER: usize = 0;
+
 pub const REQUEST: usize = 2;
 
 pub const RESPONSE: usize = REQUEST + 1;
@@ -48,6 +52,26 @@ pub fn are_valid(numbers: &Numbers) -> bool
             return false;
         }
         k += 1;
+    }
+    true
+}
+
+// Whether some sheet reads to the struct with these numbers and to these User IDs.
+pub fn are_valid_with(numbers: &Numbers, users: &Users) -> bool
+    ensures { λ r. ⌜ are-valid-with≡ (now (numbers .entry)) (now (users .entry)) r ⌝ }
+{
+    if !are_valid(numbers) {
+        return false;
+    }
+    let all = &numbers[..];
+    let seats = all[SEATS_LINE];
+    let rows = &users[..];
+    let mut s = 0;
+    while s < rows.len() {
+        if !is_good_row(users, s, seats) {
+            return false;
+        }
+        s += 1;
     }
     true
 }

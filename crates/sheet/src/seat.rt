@@ -3,44 +3,12 @@ use super::Found;
 use super::Users;
 use super::find::by_user;
 use super::user::is_user_id;
+use super::user::name_length;
 ghost use mathlib.Core.Path.{_≡_};
 ghost use Prim.Native.Nat.{_<_, _≤_};
 ghost use lib.ListN.{length};
-ghost use Rattle.octets.specs.Choice.{same};
 ghost use Rattle.octets.specs.Buffer.{over, zerosFrom};
-ghost use Rattle.sheet.specs.Value.{nameOf};
 ghost use Rattle.sheet.specs.Inner.{newName, goodRow};
-
-// How many octets a row's User ID has: those before its first zero.
-fn name_length(row: &[u8]) -> usize
-    ensures { λ r. ⌜ r ≡ length (nameOf (now (row .entry))) ⌝ }
-{
-    let mut i = 0;
-    while i < row.len() {
-        if row[i] == 0 {
-            return i;
-        }
-        i += 1;
-    }
-    i
-}
-
-// Whether a row's User ID is this name.
-pub fn has_name(row: &[u8], name: &[u8]) -> bool
-    ensures { λ r. ⌜ r ≡ same (nameOf (now (row .entry))) (now (name .entry)) ⌝ }
-{
-    if name_length(row) != name.len() {
-        return false;
-    }
-    let mut i = 0;
-    while i < name.len() {
-        if row[i] != name[i] {
-            return false;
-        }
-        i += 1;
-    }
-    true
-}
 
 // Whether every octet of a row from a place on is zero.
 fn zeros_from(row: &[u8], at: usize) -> bool

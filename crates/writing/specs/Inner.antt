@@ -1,6 +1,5 @@
 -- What the inner functions say of what is to be written. The public promise rests on these, and nobody need believe them: each is
 -- only a step of a proof. Assumes nothing.
-use mathlib.Core.Path.{_≡_}
 use Prim.Native.Nat.{ℕ, _+_, _*_}
 use mathlib.Core.Bool.{Bool, true, _&&_}
 use mathlib.Core.List.{List, [], _++_}
@@ -26,7 +25,7 @@ use Rattle.writing.specs.declared.parts.Part.{Part}
 use Rattle.writing.specs.declared.parts.Part.the-variants.{Absent as NoPart, Word, Named}
 use Rattle.writing.specs.declared.parts.Plan.{Plan}
 use Rattle.writing.specs.Packet.{within, firstOctet, withHeader}
-use Rattle.writing.specs.Writing.{roomFor, told, writingSaid, after}
+use Rattle.writing.specs.Writing.{roomFor, Answered}
 
 -- ---- a message's plan
 
@@ -132,6 +131,4 @@ planned names p =
 
 -- what is answered, and what the buffer holds, where there is so much room
 abbrev pub PlanWritten : List ℕ → Plan → List ℕ → Writing → List ℕ → Type 0
-PlanWritten names p out r now =
-    let w = roomFor (length out) (planned names p) in
-    (writingSaid r ≡ told w) × (now ≡ after w out)
+PlanWritten names p out r now = Answered (roomFor (length out) (planned names p)) out r now

@@ -6,11 +6,12 @@ use mathlib.Core.List.{List}
 use lib.ListN.{length}
 use Rattle.octets.specs.Promises.{one-answer, one-value}
 use Rattle.sheet.specs.declared.Sheet.{Sheet}
+use Rattle.sheet.specs.Value.{sheetFrom}
 use Rattle.packet.specs.declared.Message.{Message}
 use Rattle.packet.specs.Message.{messageSaid}
 use Rattle.writing.specs.declared.Writing.{Writing}
 use Rattle.writing.specs.declared.Writing.the-variants.{Written, Refused}
-use Rattle.writing.specs.Writing.{Said, wrote, refusedWith, writeOf, told, writingSaid, after}
+use Rattle.writing.specs.Writing.{Made, Said, wrote, refusedWith, writeOf, writeBy, writingSaid, Answered}
 
 -- ---- answers that say the same are the same: from what is said the answer is got back
 
@@ -25,15 +26,30 @@ writing-back (Refused r) = refl
 pub writing-apart : (x y : Writing) → writingSaid x ≡ writingSaid y → x ≡ y
 writing-apart x y e = sym (writing-back x) ∙ ap writingBack e ∙ writing-back y
 
+-- of what was made there is one answer, and one buffer afterwards
+answered-once : (w : Made) (out : List ℕ) (x y : Writing) (now other : List ℕ)
+    → Answered w out x now → Answered w out y other → (x ≡ y) × (now ≡ other)
+answered-once w out x y now other e f =
+    (one-answer writingSaid writing-apart x y (e .0) (f .0), one-value now other (e .1) (f .1))
+
+-- ---- write_by
+
+-- the number of octets written under these numbers or the refusal, and the buffer
+abbrev pub write-by≡ : List ℕ → Message → List ℕ → List ℕ → Writing → List ℕ → Type 0
+write-by≡ numbers m names out r now = Answered (writeBy (sheetFrom numbers) (messageSaid m) names (length out)) out r now
+
+pub write-by-once : (numbers : List ℕ) (m : Message) (names out : List ℕ) (x y : Writing) (now other : List ℕ)
+    → write-by≡ numbers m names out x now → write-by≡ numbers m names out y other → (x ≡ y) × (now ≡ other)
+write-by-once numbers m names out x y now other e f =
+    answered-once (writeBy (sheetFrom numbers) (messageSaid m) names (length out)) out x y now other e f
+
 -- ---- write
 
--- the number of octets written or the refusal, and the buffer
+-- the same under a sheet
 abbrev pub write≡ : Sheet → Message → List ℕ → List ℕ → Writing → List ℕ → Type 0
-write≡ sheet m names out r now =
-    let w = writeOf sheet (messageSaid m) names (length out) in
-    (writingSaid r ≡ told w) × (now ≡ after w out)
+write≡ sheet m names out r now = Answered (writeOf sheet (messageSaid m) names (length out)) out r now
 
 pub write-once : (sheet : Sheet) (m : Message) (names out : List ℕ) (x y : Writing) (now other : List ℕ)
     → write≡ sheet m names out x now → write≡ sheet m names out y other → (x ≡ y) × (now ≡ other)
 write-once sheet m names out x y now other e f =
-    (one-answer writingSaid writing-apart x y (e .0) (f .0), one-value now other (e .1) (f .1))
+    answered-once (writeOf sheet (messageSaid m) names (length out)) out x y now other e f

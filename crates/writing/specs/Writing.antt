@@ -1,14 +1,17 @@
 -- Writing a message (document 01, "Packet", and "Refusals": 12 line 0, 5, 11, in that order; "changes no lent octet"). Assumes nothing.
+use mathlib.Core.Path.{_≡_}
 use Prim.Native.Nat.{ℕ}
+use mathlib.Core.Bool.{Bool, _&&_}
 use mathlib.Core.List.{List}
 use mathlib.Core.Option.{Option, none, some}
 use lib.ListN.{length}
-use lib.Dec.{leb}
-use Rattle.octets.specs.Choice.{pick}
+use lib.Dec.{leb, ltb}
+use Rattle.octets.specs.Choice.{pick, every}
 use Rattle.octets.specs.Buffer.{over}
 use Rattle.sheet.specs.declared.Sheet.{Sheet}
 use Rattle.sheet.specs.Value.{validAlone}
-use Rattle.packet.specs.Kind.{numbersOf}
+use Rattle.packet.specs.declared.Numbers.{Numbers}
+use Rattle.packet.specs.Kind.{Row, Kind, kinds, numbersOf}
 use Rattle.packet.specs.Reading.{Outcome}
 use Rattle.writing.specs.declared.Writing.{Writing}
 use Rattle.writing.specs.declared.Writing.the-variants.{Written, Refused}
@@ -35,6 +38,14 @@ packetFor s (some m) = packetOf (numbersOf s) m
 unfoldable pub writeOf : Sheet → Outcome → List ℕ → ℕ → Made
 writeOf s message names room = pick (validAlone s) (roomFor room (packetFor s (meaning names message))) (refused 12 0)
 
+-- The numbers go into their places in a packet: "the other four are the message's number", "An ID of 192 or more is refused".
+unfoldable pub fits : Numbers → Bool
+fits n = every (λ (k : Kind). ltb (k .number) 16 && every (λ (r : Row). ltb (r .id) 192) (k .rows)) (kinds n)
+
+-- The same for numbers of which it was asked elsewhere whether a sheet has them. Those that go into no packet are no sheet's: 12.
+unfoldable pub writeBy : Sheet → Outcome → List ℕ → ℕ → Made
+writeBy s message names room = pick (fits (numbersOf s)) (roomFor room (packetFor s (meaning names message))) (refused 12 0)
+
 -- ---- what is answered, and what the buffer holds
 
 -- how many octets were written, or a refusal
@@ -54,3 +65,7 @@ writingSaid (Refused r) = refusedWith (r .number) (r .at)
 unfoldable pub after : Made → List ℕ → List ℕ
 after (made p) out = over p out
 after (refused number at) out = out
+
+-- the answer tells what was made, and the buffer, which held `out`, is as that leaves it
+abbrev pub Answered : Made → List ℕ → Writing → List ℕ → Type 0
+Answered w out r now = (writingSaid r ≡ told w) × (now ≡ after w out)

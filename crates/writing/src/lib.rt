@@ -9,10 +9,11 @@ use packet::codes::FIRST_FIELD;
 use parts::Plan;
 use sheet::Refusal;
 use sheet::Sheet;
+use sheet::numbers::Numbers;
 ghost use mathlib.Core.Path.{_≡_};
 ghost use Rattle.writing.specs.Writing.{refusedWith, writingSaid};
 ghost use Rattle.writing.specs.Inner.{PlanWritten};
-ghost use Rattle.writing.specs.Promises.{write≡};
+ghost use Rattle.writing.specs.Promises.{write-by≡, write≡};
 
 // How many octets were written, or why none.
 pub enum Writing {
@@ -41,6 +42,17 @@ fn write_plan(plan: Plan, names: &[u8], out: &mut [u8]) -> Writing
     front::put_header(out, plan, size);
     fields::put_fields(&mut out[FIRST_FIELD..], plan, names);
     Writing::Written(size)
+}
+
+// Writes a message under these numbers: how many octets, or 12 line 0 where they go into no packet, 5 or 11, checked in that order.
+// Whether a sheet has them is not asked.
+pub fn write_by(numbers: &Numbers, message: Message, names: &[u8], out: &mut [u8]) -> Writing
+    ensures { λ r. ⌜ write-by≡ (now (numbers .entry)) message (now (names .entry)) (now (out .entry)) r (now (out .exit)) ⌝ }
+{
+    if !messages::fit(numbers) {
+        return refused(12);
+    }
+    write_plan(messages::plan_of(numbers, message), names, out)
 }
 
 // Writes a message whose names lie in `names` into the front of `out`: how many octets, or 12 line 0, 5 or 11, checked in that order.

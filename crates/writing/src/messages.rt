@@ -24,8 +24,10 @@ use sheet::numbers::TX_END_RESPONSE;
 ghost use mathlib.Core.Path.{_≡_};
 ghost use Prim.Native.Nat.{_<_};
 ghost use lib.Dec.{T};
-ghost use Rattle.sheet.specs.Value.{sheetFrom, validAlone};
+ghost use Rattle.sheet.specs.Value.{sheetFrom};
+ghost use Rattle.packet.specs.Kind.{numbersOf};
 ghost use Rattle.writing.specs.Packet.{firstOctet};
+ghost use Rattle.writing.specs.Writing.{fits};
 ghost use Rattle.writing.specs.Inner.{numberPart, indicatorPart, resultPart, causePart, planWith, planFor, indicatorWithin, verdictWithin, inWidth};
 
 // Version 2 and padding bit 0, in the first octet.
@@ -33,6 +35,27 @@ const PLAIN: u8 = 128;
 
 // The same with the first bit of the subtype, which asks for an Ack.
 const ASKING: u8 = PLAIN + 16;
+
+// A message's number goes into four bits.
+const NUMBER_END: u32 = 16;
+
+// "An ID of 192 or more is refused".
+const ID_END: u32 = 192;
+
+// Whether the messages' numbers and the Result's ID go into their places in a packet.
+pub fn fit(numbers: &Numbers) -> bool
+    ensures { λ r. ⌜ r ≡ fits (numbersOf (sheetFrom (now (numbers .entry)))) ⌝ }
+{
+    let all = &numbers[..];
+    let mut k = REQUEST;
+    while k < RESULT_ID {
+        if NUMBER_END <= all[k] {
+            return false;
+        }
+        k += 1;
+    }
+    all[RESULT_ID] < ID_END
+}
 
 // A field with a number: ID octet, length octet 2 and the number are one word.
 fn numbered(id: u32, number: u16) -> Part
@@ -100,9 +123,9 @@ fn plan_with(head: Head, letters: u32, number: u32, first: Part, second: Part, t
     }
 }
 
-// The plan of a message under a sheet's numbers.
+// The plan of a message under these numbers.
 pub fn plan_of(numbers: &Numbers, message: Message) -> Plan
-    requires { ⌜ T (validAlone (sheetFrom (now numbers))) ⌝ }
+    requires { ⌜ T (fits (numbersOf (sheetFrom (now numbers)))) ⌝ }
     ensures { λ r. ⌜ (r ≡ planFor (sheetFrom (now (numbers .entry))) message) × T (inWidth message) ⌝ }
 {
     match message {

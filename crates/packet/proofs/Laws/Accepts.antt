@@ -13,7 +13,7 @@ use Rattle.octets.proofs.Choice.{T-true, T-and-left, T-and-right, T-or-left}
 use Rattle.packet.specs.declared.field.Field.{Field}
 use Rattle.packet.specs.declared.kind.Form.the-variants.{Cause, Result}
 use Rattle.packet.specs.declared.kind.Slot.{Slot}
-use Rattle.packet.specs.declared.kind.Numbers.{Numbers}
+use Rattle.packet.specs.declared.Numbers.{Numbers}
 use Rattle.packet.specs.Header.{sizeRight, headRight, ackAsked, ssrcIn}
 use Rattle.packet.specs.Walk.{fieldsOf, whole}
 use Rattle.packet.specs.Kind.{always, unlessGranted, Row, row, indicator, Kind, kinds, hasKind, kindOf, settled, slotsOf, mayLack, isResult, grants}

@@ -9,7 +9,7 @@ use lib.ListN.{length, getD}
 use lib.Dec.{eqb, lit<}
 use Rattle.octets.specs.Choice.{pick, same}
 use Rattle.octets.specs.Big.{bigAt, bigOf}
-use Rattle.packet.specs.declared.kind.Numbers.{Numbers}
+use Rattle.packet.specs.declared.Numbers.{Numbers}
 use Rattle.packet.specs.Header.{lettersIn, numberIn}
 use Rattle.packet.specs.Kind.{Kind, kinds, hasKind, kindOf, settled, slotsOf}
 use Rattle.packet.specs.Inner.{mcv2Kind, kindNumbered}

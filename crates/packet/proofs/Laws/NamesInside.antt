@@ -14,7 +14,7 @@ use Rattle.sheet.specs.Value.{validAlone}
 use Rattle.packet.specs.declared.field.Field.{Field}
 use Rattle.packet.specs.declared.kind.Form.{Form}
 use Rattle.packet.specs.declared.kind.Form.the-variants.{UserId, Number, Cause, Result, MessageType, Barred}
-use Rattle.packet.specs.declared.kind.Numbers.{Numbers}
+use Rattle.packet.specs.declared.Numbers.{Numbers}
 use Rattle.packet.specs.declared.kind.Slot.{Slot}
 use Rattle.packet.specs.Header.{sizeRight, headRight}
 use Rattle.packet.specs.Walk.{fieldsOf, valueOf, whole}
@@ -68,12 +68,19 @@ module _ (p : List ℕ) (kind ssrc : ℕ) (ack : Bool) (values : List Held) wher
       let judged = messageOf-reads p (k .kind) slots fault kind ssrc ack values (check-reads (whole p) _ (messageOf p (k .kind) slots fault) e) in
       rw (judged .1) at (sounds-right p (filledIn slots (fieldsOf p)) (fault-sound p slots (judged .0)))
 
--- The names of a message that is read are right.
-pub names-right : NamesRight
-unfolding readOf readBy
-names-right s p kind ssrc ack values e =
-    let n = numbersOf s in
+-- The names of a message that is read under a sheet's numbers are right ..
+pub names-right-by : (n : Numbers) (p : List ℕ) (kind ssrc : ℕ) (ack : Bool) (values : List Held)
+    → readBy n p ≡ reads kind ssrc ack values → T (every (nameRight p) values)
+unfolding readBy
+names-right-by n p kind ssrc ack values e =
     let passed = check-reads p kind ssrc ack values in
     let as-kind = readAs n p (kindOf n p) in
     kind-right p kind ssrc ack values n (kindOf n p)
-    (passed (headRight p) _ as-kind (passed (sizeRight p) _ (check (headRight p) 2 as-kind) (passed (validAlone s) _ (readBy n p) e)))
+    (passed (headRight p) _ as-kind (passed (sizeRight p) _ (check (headRight p) 2 as-kind) e))
+
+-- .. and so are those of one that is read under a sheet.
+pub names-right : NamesRight
+unfolding readOf
+names-right s p kind ssrc ack values e =
+    let n = numbersOf s in
+    names-right-by n p kind ssrc ack values (check-reads p kind ssrc ack values (validAlone s) _ (readBy n p) e)

@@ -14,7 +14,7 @@ use Rattle.octets.specs.Buffer.{padded}
 use Rattle.octets.proofs.Buffer.{getD-padded}
 use Rattle.octets.proofs.Choice.{T-true, false-T, T-and-left, T-and-right, pick-cases}
 use Rattle.packet.specs.declared.field.Field.{Field}
-use Rattle.packet.specs.declared.kind.Numbers.{Numbers}
+use Rattle.packet.specs.declared.Numbers.{Numbers}
 use Rattle.packet.specs.declared.kind.Form.{Form}
 use Rattle.packet.specs.declared.kind.Form.the-variants.{UserId, Number, Cause, Result, MessageType}
 use Rattle.packet.specs.declared.kind.Slot.{Slot}

@@ -18,7 +18,7 @@ use Rattle.sheet.proofs.Laws.Entries.{inTurn-append, inTurn-at}
 use Rattle.sheet.proofs.Laws.Fresh.{number-bound}
 
 -- a number that stands on a line of the family is taken
-taken-at : (family n k : ℕ) (ns : List ℕ) (i : ℕ) → i < length ns → rowAt (k + i) .family ≡ family → getD ns i 0 ≡ n → T (taken family n k ns)
+pub taken-at : (family n k : ℕ) (ns : List ℕ) (i : ℕ) → i < length ns → rowAt (k + i) .family ≡ family → getD ns i 0 ≡ n → T (taken family n k ns)
 unfolding taken
 taken-at family n k [] i h p q = absurd (not-suc-le-zero h)
 taken-at family n k (m ∷ ms) zero h p q =

@@ -23,7 +23,7 @@ use Rattle.sheet.specs.Line.{visible, longestName}
 use Rattle.sheet.specs.Judge.{userId}
 use Rattle.sheet.proofs.Laws.Scanned.{userId-short}
 use Rattle.packet.specs.declared.field.Field.{Field}
-use Rattle.packet.specs.declared.kind.Numbers.{Numbers}
+use Rattle.packet.specs.declared.Numbers.{Numbers}
 use Rattle.packet.specs.declared.kind.Form.{Form}
 use Rattle.packet.specs.declared.kind.Form.the-variants.{UserId, Number, Cause, Result, MessageType, Barred}
 use Rattle.packet.specs.Header.{firstField, word, ssrcIn, ackAsked}

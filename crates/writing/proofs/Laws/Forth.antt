@@ -15,7 +15,7 @@ use Rattle.sheet.specs.Value.{validAlone}
 use Rattle.packet.specs.declared.field.Field.{Field}
 use Rattle.packet.specs.declared.kind.Form.{Form}
 use Rattle.packet.specs.declared.kind.Form.the-variants.{UserId, Number, Cause, Result, MessageType, Barred}
-use Rattle.packet.specs.declared.kind.Numbers.{Numbers}
+use Rattle.packet.specs.declared.Numbers.{Numbers}
 use Rattle.packet.specs.declared.kind.Slot.{Slot}
 use Rattle.packet.specs.Header.{sizeRight, headRight, ackAsked, ssrcIn}
 use Rattle.packet.specs.Walk.{fieldsOf, whole}

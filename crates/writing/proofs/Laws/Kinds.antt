@@ -1,26 +1,30 @@
--- Laws of the kinds of a valid sheet: what each is like, and that a packet with a kind's letters and number is of that kind. Assumes nothing.
+-- Laws of a sheet's numbers and kinds: which numbers fit, what each kind of a valid sheet is like, and that a packet with a kind's letters
+-- and number is of that kind. Assumes nothing.
 use mathlib.Core.Path.{_≡_, refl, sym, ap, _∙_}
-use mathlib.Core.Bool.{Bool, true, false, not, _&&_, _||_}
-use mathlib.Core.List.{List, [], _∷_}
+use mathlib.Core.Bool.{Bool, true, false, not, _&&_, _||_, and-true, and-assoc, and-comm}
+use mathlib.Core.List.{List, [], _∷_, _++_}
 use mathlib.Core.Option.{some}
 use Prim.Native.Nat.{ℕ, suc, _+_, _<_, _≤_, suc-le-suc}
+use native.Mathlib.Numerals.{add-one}
 use native.Mathlib.Omega.{arith}
 use lib.ListN.{length, getD}
-use lib.Dec.{T, ltb, eqb, eqb→eq, eqb-refl, lit<}
+use lib.Seq.{slice, slice-cons}
+use lib.Dec.{T, ltb, eqb, eqb→eq, eqb-refl, ltb→lt, lit<}
 use borrow.Author.Tests.{lt-ltb, ne-eqb}
 use Rattle.octets.specs.Choice.{All, same, every}
-use Rattle.octets.proofs.Choice.{T-and, T-and-left, T-and-right, same-refl, same-eq}
+use Rattle.octets.proofs.Choice.{T-and, T-and-left, T-and-right, every-getD, same-refl, same-eq}
 use Rattle.octets.proofs.First.{first-all, first-other}
 use Rattle.sheet.specs.declared.Sheet.{Sheet}
 use Rattle.sheet.specs.Table.{table, numberLines, rowAt}
 use Rattle.sheet.specs.Value as value
 use Rattle.sheet.specs.Value.{validAlone}
 use Rattle.sheet.proofs.Laws.Bounds.{valid-within, valid-apart}
-use Rattle.packet.specs.declared.kind.Numbers.{Numbers}
+use Rattle.packet.specs.declared.Numbers.{Numbers}
 use Rattle.packet.specs.Header.{lettersIn, numberIn}
 use Rattle.packet.specs.Kind.{Row, Kind, kinds, hasKind, kindOf, numbersOf}
 use Rattle.packet.proofs.Laws.Allowed.{uses}
 use Rattle.writing.specs.Packet.{kindWith}
+use Rattle.writing.specs.Writing.{fits}
 use Rattle.writing.specs.Claims.{areOctets}
 
 -- ---- the kind with a number
@@ -30,9 +34,26 @@ pub kindWith-all : (kind : ℕ) (k : Kind) (P : Kind → Type 0) (ks : List Kind
 unfolding kindWith
 kindWith-all kind k P ks h e = first-all (λ (c : Kind). eqb (c .kind) kind) k P ks h e
 
--- ---- a sheet's numbers
+-- ---- numbers that go into their places
 
--- those of the messages go into four bits, and the Result's ID is apart from the IDs of document 01 and below 192
+-- one that goes into four bits
+abbrev short : ℕ → Bool
+short n = ltb n 16
+
+-- the messages' numbers, on lines 2 to 8, do from line k on ..
+abbrev pub shortFrom : List ℕ → ℕ → Bool
+shortFrom ns k = every short (slice k 9 ns)
+
+-- .. if line k's does, and those behind it do
+pub shortFrom-next : (ns : List ℕ) (k : ℕ) → k < 9 → 9 ≤ length ns → shortFrom ns k ≡ (short (getD ns k 0) && shortFrom ns (k + 1))
+shortFrom-next ns k h l = rw (add-one, slice-cons k 9 ns 0 h l)
+
+-- numbers fit if the messages' go into four bits, and the Result's ID, on line 9, is below 192
+pub fits-is : (s : Sheet) (ns : List ℕ) → ns ≡ value.numbersOf s ++ s .ssrcs → fits (numbersOf s) ≡ (shortFrom ns 2 && ltb (getD ns 9 0) 192)
+unfolding fits kinds numbersOf value.numbersOf
+fits-is s ns e = rw e (simp (and-true, and-assoc) (rw (and-comm (ltb (s .resultid) 192)) (simp and-assoc)))
+
+-- the same one by one
 pub record Small (s : Sheet) : Type 0 where
   pub request : s .request < 16
   pub response : s .response < 16
@@ -41,15 +62,38 @@ pub record Small (s : Sheet) : Type 0 where
   pub txend : s .txend < 16
   pub txendresponse : s .txendresponse < 16
   pub ack : s .ack < 16
-  pub above : 15 ≤ s .resultid
   pub resultid : s .resultid < 192
 
--- a valid one's are so: each is within its line's bounds
-pub small : (s : Sheet) → T (validAlone s) → Small s
-unfolding table numberLines rowAt value.numbersOf
-small s v =
+-- numbers that fit are so
+pub small : (s : Sheet) → T (fits (numbersOf s)) → Small s
+unfolding value.numbersOf
+small s t =
+    let ns = value.numbersOf s ++ s .ssrcs in
+    let messages = slice 2 9 ns in
+    let id = ltb (s .resultid) 192 in
+    let u : T (every short messages && id) = rw (fits-is s ns refl) at t in
+    let r = ltb→lt (s .resultid) 192 (T-and-right (every short messages) id u) in
+    let at : (i : ℕ) → i < 7 → getD messages i 0 < 16 =
+    λ i l. ltb→lt (getD messages i 0) 16 (every-getD short messages i 0 (T-and-left (every short messages) id u) l) in
+    omega (arith, at 0 (lit< tt), at 1 (lit< tt), at 2 (lit< tt), at 3 (lit< tt), at 4 (lit< tt), at 5 (lit< tt), at 6 (lit< tt))
+
+-- a valid sheet's numbers fit: each is within its line's bounds
+pub valid-fits : (s : Sheet) → T (validAlone s) → T (fits (numbersOf s))
+unfolding fits kinds numbersOf table numberLines rowAt value.numbersOf
+valid-fits s v =
     let at = valid-within s v in
-    omega (arith, at 2 (lit< tt), at 3 (lit< tt), at 4 (lit< tt), at 5 (lit< tt), at 6 (lit< tt), at 7 (lit< tt), at 8 (lit< tt), at 9 (lit< tt))
+    let n : Small s =
+    omega (arith, at 2 (lit< tt), at 3 (lit< tt), at 4 (lit< tt), at 5 (lit< tt), at 6 (lit< tt), at 7 (lit< tt), at 8 (lit< tt), at 9 (lit< tt)) in
+    rw (
+      lt-ltb (s .request) 16 (n .request),
+      lt-ltb (s .response) 16 (n .response),
+      lt-ltb (s .resultid) 192 (n .resultid),
+      lt-ltb (s .endrequest) 16 (n .endrequest),
+      lt-ltb (s .endresponse) 16 (n .endresponse),
+      lt-ltb (s .txend) 16 (n .txend),
+      lt-ltb (s .txendresponse) 16 (n .txendresponse),
+      lt-ltb (s .ack) 16 (n .ack),
+    ) tt
 
 -- ---- what each is like
 
@@ -78,10 +122,11 @@ pub record KindRight (k : Kind) : Type 0 where
 
 -- each of a valid sheet's kinds is; only the second's rows depend on the sheet
 kinds-right : (s : Sheet) → T (validAlone s) → All KindRight (kinds (numbersOf s))
-unfolding kinds numbersOf areOctets
+unfolding kinds numbersOf areOctets table numberLines rowAt value.numbersOf
 kinds-right s v =
-    let n = small s v in
-    let id = s .resultid in (
+    let n = small s (valid-fits s v) in
+    let id = s .resultid in
+    let above : 15 ≤ id = valid-within s v 9 (lit< tt) .0 in (
       omega arith,
       (
         record {

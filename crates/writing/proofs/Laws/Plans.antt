@@ -14,7 +14,6 @@ use Rattle.octets.specs.Big.{bigOf}
 use Rattle.octets.proofs.Big.{bigOf-two}
 use Rattle.octets.proofs.Choice.{T-true, decide, T-and-left, T-and-right}
 use Rattle.sheet.specs.declared.Sheet.{Sheet}
-use Rattle.sheet.specs.Value.{validAlone}
 use Rattle.packet.specs.declared.Head.{Head}
 use Rattle.packet.specs.declared.Name.{Name}
 use Rattle.packet.specs.declared.Indicator.{Indicator}
@@ -31,7 +30,7 @@ use Rattle.writing.specs.declared.parts.Part.{Part}
 use Rattle.writing.specs.declared.parts.Part.the-variants.{Absent as NoPart, Named}
 use Rattle.writing.specs.Meaning.{Value, nothing, numeral, valueIn, meaning}
 use Rattle.writing.specs.Packet.{within, holds, isNothing, takes, takesAll, isOne, writable, octetsFor, contentsFor, packetAs, kindWith, packetOf}
-use Rattle.writing.specs.Writing.{packetFor}
+use Rattle.writing.specs.Writing.{packetFor, fits}
 use Rattle.writing.specs.Inner.{numberPart, indicatorPart, planWith, planFor, indicatorWithin, inWidth, partOctets, partRight, planned}
 use Rattle.writing.proofs.Laws.Kinds.{small}
 use Rattle.writing.proofs.Laws.Parts.{laid-number}
@@ -149,11 +148,11 @@ planned-as s kind letters h {names} {k} {values} {first} {second} {third} e l w 
     (λ t. rw (m .fields (rw right t), append-nil, append-assoc)))
 
 -- the Result's ID goes into an octet
-narrow-id : (s : Sheet) → T (validAlone s) → s .resultid < 256
-narrow-id s v = let n = small s v in omega arith
+narrow-id : (s : Sheet) → T (fits (numbersOf s)) → s .resultid < 256
+narrow-id s t = let n = small s t in omega arith
 
 -- the plan of a message whose numbers are no wider than their types
-pub planned-is : (s : Sheet) → T (validAlone s) → (m : Message) (names : List ℕ) → T (inWidth m) → planned names (planFor s m) ≡ packetFor s (meaning names (messageSaid m))
+pub planned-is : (s : Sheet) → T (fits (numbersOf s)) → (m : Message) (names : List ℕ) → T (inWidth m) → planned names (planFor s m) ≡ packetFor s (meaning names (messageSaid m))
 unfolding inWidth kindWith kinds numbersOf bigOf meaning valueIn grants isResult isOne mayLack mayHave holds octetsFor
 planned-is s v (ReceiveRequest h user source i) names w =
     let t = halves (within 4 (h .ssrc)) (indicatorWithin i) w in

@@ -11,6 +11,7 @@ use Rattle.sheet.specs.Value.{sheetFrom}
 use Rattle.sheet.specs.Promises.{valid≡}
 use Rattle.sheet.proofs.Laws.Values.{sheetFrom-own, judged-own}
 use Rattle.writing.specs.Writing.{writeOf, told, after}
+use Rattle.writing.proofs.Laws.Kinds.{valid-fits}
 use Rattle.writing.proofs.Laws.Plans.{planned-is}
 use Rattle.writing.proofs.write.Statement.{statement}
 use Rattle.writing.proofs.write.Tie as tie
@@ -39,7 +40,7 @@ returns c =
     rw (sym (judged (c .before .before)) ∙ not-true _ (c .before .if1 .taken)) (c .refused .ensures, refl)
 
 plan-of-requires : tie.Need-plan-of-requires
-plan-of-requires c κs = true-T _ (sym (c .before .before .are-valid .ensures) ∙ not-false _ (c .before .if1 .left))
+plan-of-requires c κs = valid-fits _ (true-T _ (sym (c .before .before .are-valid .ensures) ∙ not-false _ (c .before .if1 .left)))
 
 write-plan-requires : tie.Need-write-plan-requires
 write-plan-requires c κs = search needs
@@ -55,8 +56,8 @@ returns-2 c =
     let a = checked .before .before .before .before .before .args in
     let valid = sym (judged checked) ∙ not-false _ (plan .before .before .if1 .left) in
     let own = ap sheetFrom (checked .before .before .numbers-of .ensures) ∙ sheetFrom-own (a .sheet) (eight checked) in
-    rw valid
-    (rw (plan .plan-of .ensures .0, own, planned-is (a .sheet) (true-T _ valid) (a .message) (now (a .names)) (plan .plan-of .ensures .1)) at (c .before .before .write-plan .ensures))
+    let means = planned-is (a .sheet) (valid-fits (a .sheet) (true-T _ valid)) (a .message) (now (a .names)) (plan .plan-of .ensures .1) in
+    rw valid (rw (plan .plan-of .ensures .0, own, means) at (c .before .before .write-plan .ensures))
 
 pub write-spec : {M : Type 1} → statement M
 write-spec =

@@ -1,4 +1,4 @@
--- `writing::messages::plan_of` meets its contract: message by message, under a sheet whose numbers are in their lines' bounds. Assumes nothing.
+-- `writing::messages::plan_of` meets its contract: message by message, under numbers that fit. Assumes nothing.
 use Prim.Native.Nat.{ℕ, _^_, _<_}
 use native.Mathlib.Omega.{arith}
 use mathlib.Core.Bool.{Bool, _&&_}

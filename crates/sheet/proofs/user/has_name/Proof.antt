@@ -1,4 +1,4 @@
--- `sheet::seat::has_name` meets its contract. The invariant: the name in the row is this name just if the two agree from i on.
+-- `sheet::user::has_name` meets its contract. The invariant: the name in the row is this name just if the two agree from i on.
 -- Assumes nothing.
 use mathlib.Core.Path.{_≡_, refl, sym, _∙_}
 use Prim.Native.Nat.{_-_, _≤_}
@@ -10,8 +10,8 @@ use Rattle.octets.specs.Choice.{same}
 use Rattle.octets.proofs.Choice.{same-end, same-length}
 use Rattle.sheet.specs.Value.{nameOf}
 use Rattle.sheet.proofs.Laws.Rows.{length-nameOf-le, same-nameOf-step}
-use Rattle.sheet.proofs.seat.has_name.Statement.{statement}
-use Rattle.sheet.proofs.seat.has_name.Tie as tie
+use Rattle.sheet.proofs.user.has_name.Statement.{statement}
+use Rattle.sheet.proofs.user.has_name.Tie as tie
 
 abbrev Inv-loop : tie.InvT-loop
 Inv-loop row name i₀ i = (i ≤ length name) × (same (nameOf row) name ≡ same (drop i (nameOf row)) (drop i name))

@@ -1,4 +1,4 @@
--- `sheet::seat::name_length` meets its contract. The invariant: the name is i octets and those of the name from i on.
+-- `sheet::user::name_length` meets its contract. The invariant: the name is i octets and those of the name from i on.
 -- Assumes nothing.
 use mathlib.Core.Path.{_≡_, ap}
 use Prim.Native.Nat.{ℕ, _+_, _-_, _≤_}
@@ -8,8 +8,8 @@ use native.Mathlib.Omega.{arith}
 use lib.ListN.{length, drop}
 use Rattle.sheet.specs.Value.{nameOf}
 use Rattle.sheet.proofs.Laws.Rows.{nameOf-zero, nameOf-step, nameOf-end}
-use Rattle.sheet.proofs.seat.name_length.Statement.{statement}
-use Rattle.sheet.proofs.seat.name_length.Tie as tie
+use Rattle.sheet.proofs.user.name_length.Statement.{statement}
+use Rattle.sheet.proofs.user.name_length.Tie as tie
 
 abbrev Inv-loop : tie.InvT-loop
 Inv-loop row i₀ i = (i ≤ length row) × (length (nameOf row) ≡ i + length (nameOf (drop i row)))

@@ -1,0 +1,58 @@
+-- `controller::event::event_in` meets its contract: the packet is read by the sheet's numbers, and the names of the message lie in it
+-- (`read-names`). Assumes nothing.
+use mathlib.Core.Path.{_≡_, sym, ap, _∙_}
+use denote.Ref.{now}
+use borrow.Author.Needs.{needs}
+use Rattle.packet.specs.declared.Reading.{Reading}
+use Rattle.packet.specs.Kind.{numbersOf}
+use Rattle.packet.specs.Reading.{readBy}
+use Rattle.packet.specs.Message.{readSaid}
+use Rattle.controller.specs.Event.{eventFrom}
+use Rattle.controller.proofs.Laws.Heard.{read-names}
+use Rattle.controller.proofs.event.event_in.Statement.{statement}
+use Rattle.controller.proofs.event.event_in.Tie as tie
+
+-- where the function began
+abbrev start : tie.After-read-by → tie.Start
+start c = c .before .before .before .before
+
+-- what the packet reads to by the sheet's numbers is what the answer says
+told : (c : tie.After-read-by) (r : Reading) → c .read-by .result ≡ r
+    → readBy (numbersOf (start c .args .sheet)) (now (start c .args .packet)) ≡ readSaid r
+told c r e = sym (rw (c .before .numbers-of .ensures) at (c .read-by .ensures)) ∙ ap readSaid e
+
+numbers-of-requires : tie.Need-numbers-of-requires
+numbers-of-requires c κs = search needs
+
+read-by-requires : tie.Need-read-by-requires
+read-by-requires c κs = search needs
+
+enum-known-message : tie.Need-enum-known-message
+enum-known-message c = search needs
+
+offered-requires : tie.Need-offered-requires
+offered-requires c κs = read-names _ _ _ (told (c .before .before .before) _ (c .before .message .given .1))
+
+enum-known-refusal : tie.Need-enum-known-refusal
+enum-known-refusal c = search needs
+
+returns : tie.Need-returns
+returns c =
+    let message = c .before .before in
+    rw (told (message .before .before) _ (message .message .given .1)) (c .offered .ensures)
+
+returns-2 : tie.Need-returns-2
+unfolding eventFrom
+returns-2 c = rw (told (c .before .before .before) _ (c .before .refusal .given .1))
+
+pub event-in-spec : {M : Type 1} → statement M
+event-in-spec =
+    tie.close
+    (tie.spec
+    numbers-of-requires
+    read-by-requires
+    enum-known-message
+    offered-requires
+    enum-known-refusal
+    returns
+    returns-2)

@@ -1,0 +1,5 @@
+pub mod Event
+pub mod Sending
+pub mod Inner
+pub mod Promises
+pub mod Claims

@@ -1,0 +1,78 @@
+// The controller (document 01, "Stream record"): which event a packet makes, and which packet an answer sends.
+mod answer;
+mod event;
+
+use reception::Answer;
+use reception::Event;
+use sheet::Refusal;
+use sheet::Sheet;
+use sheet::Users;
+use sheet::numbers::are_valid_with;
+ghost use mathlib.Core.Path.{_≡_};
+ghost use Rattle.controller.specs.Promises.{event-of≡, packet-of≡};
+
+// The event that a packet makes, or why it makes none.
+pub enum Offered {
+    Event(Event),
+    Refused(Refusal),
+}
+
+// How many octets of the buffer the packet of an answer took; that the answer sends none; or why none was written.
+pub enum Sending {
+    Written(usize),
+    Nothing,
+    Refused(Refusal),
+}
+
+// A refusal by its number alone.
+fn refusal(number: u32) -> Refusal
+    ensures { λ r. ⌜ (r .number ≡ number) × (r .at ≡ 0) ⌝ }
+{
+    Refusal { number, at: 0 }
+}
+
+// The event that a packet makes, the User IDs lent: or 12 line 0, 1 to 5, 8, 6 or 7, checked in that order.
+pub fn event_lent(sheet: Sheet, users: &Users, packet: &[u8]) -> Offered
+    ensures { λ r. ⌜ event-of≡ sheet (now (users .entry)) (now (packet .entry)) r ⌝ }
+{
+    if !sheet::valid_with(sheet, users) {
+        return Offered::Refused(refusal(12));
+    }
+    event::event_in(sheet, users, packet)
+}
+
+// The event that a packet makes, or 12 line 0, 1 to 5, 8, 6 or 7, checked in that order.
+pub fn event_of(sheet: Sheet, users: Users, packet: &[u8]) -> Offered
+    ensures { λ r. ⌜ event-of≡ sheet users (now (packet .entry)) r ⌝ }
+{
+    event_lent(sheet, &users, packet)
+}
+
+// Writes the packet that an answer on a stream sends into the front of `out`, the User IDs lent: how many octets, that it sends none,
+// or 12 line 0, 9 or 11, checked in that order.
+pub fn packet_lent(
+    sheet: Sheet,
+    users: &Users,
+    stream: u8,
+    answer: Answer,
+    out: &mut [u8],
+) -> Sending
+    ensures { λ r. ⌜ packet-of≡ sheet (now (users .entry)) stream answer (now (out .entry)) r (now (out .exit)) ⌝ }
+{
+    let numbers = sheet::numbers::numbers_of(sheet);
+    if !are_valid_with(&numbers, users) {
+        return Sending::Refused(refusal(12));
+    }
+    if sheet.seats <= (stream as u32) {
+        return Sending::Refused(refusal(9));
+    }
+    answer::send(&numbers, &users[stream as usize][..], answer, out)
+}
+
+// Writes the packet that an answer on a stream sends into the front of `out`: how many octets, that it sends none, or 12 line 0, 9 or
+// 11, checked in that order.
+pub fn packet_of(sheet: Sheet, users: Users, stream: u8, answer: Answer, out: &mut [u8]) -> Sending
+    ensures { λ r. ⌜ packet-of≡ sheet users stream answer (now (out .entry)) r (now (out .exit)) ⌝ }
+{
+    packet_lent(sheet, &users, stream, answer, out)
+}
