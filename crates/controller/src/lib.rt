@@ -7,8 +7,11 @@ use reception::Event;
 use sheet::Refusal;
 use sheet::Sheet;
 use sheet::Users;
+use sheet::numbers::Numbers;
+use sheet::numbers::SEATS_LINE;
 use sheet::numbers::are_valid_with;
 ghost use mathlib.Core.Path.{_≡_};
+ghost use Rattle.sheet.specs.Value.{sheetFrom};
 ghost use Rattle.controller.specs.Promises.{event-of≡, packet-of≡};
 
 // The event that a packet makes, or why it makes none.
@@ -48,25 +51,24 @@ pub fn event_of(sheet: Sheet, users: Users, packet: &[u8]) -> Offered
     event_lent(sheet, &users, packet)
 }
 
-// Writes the packet that an answer on a stream sends into the front of `out`, the User IDs lent: how many octets, that it sends none,
-// or 12 line 0, 9 or 11, checked in that order.
+// Writes the packet that an answer on a stream sends into the front of `out`, a sheet's numbers and the User IDs lent: how many octets, that
+// it sends none, or 12 line 0, 9 or 11, checked in that order. 256 octets of stack suffice.
 pub fn packet_lent(
-    sheet: Sheet,
+    numbers: &Numbers,
     users: &Users,
     stream: u8,
     answer: Answer,
     out: &mut [u8],
 ) -> Sending
-    ensures { λ r. ⌜ packet-of≡ sheet (now (users .entry)) stream answer (now (out .entry)) r (now (out .exit)) ⌝ }
+    ensures { λ r. ⌜ packet-of≡ (sheetFrom (now (numbers .entry))) (now (users .entry)) stream answer (now (out .entry)) r (now (out .exit)) ⌝ }
 {
-    let numbers = sheet::numbers::numbers_of(sheet);
-    if !are_valid_with(&numbers, users) {
+    if !are_valid_with(numbers, users) {
         return Sending::Refused(refusal(12));
     }
-    if sheet.seats <= (stream as u32) {
+    if numbers[SEATS_LINE] <= (stream as u32) {
         return Sending::Refused(refusal(9));
     }
-    answer::send(&numbers, &users[stream as usize][..], answer, out)
+    answer::send(numbers, &users[stream as usize][..], answer, out)
 }
 
 // Writes the packet that an answer on a stream sends into the front of `out`: how many octets, that it sends none, or 12 line 0, 9 or
@@ -74,5 +76,6 @@ pub fn packet_lent(
 pub fn packet_of(sheet: Sheet, users: Users, stream: u8, answer: Answer, out: &mut [u8]) -> Sending
     ensures { λ r. ⌜ packet-of≡ sheet users stream answer (now (out .entry)) r (now (out .exit)) ⌝ }
 {
-    packet_lent(sheet, &users, stream, answer, out)
+    let numbers = sheet::numbers::numbers_of(sheet);
+    packet_lent(&numbers, &users, stream, answer, out)
 }

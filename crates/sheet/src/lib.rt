@@ -96,6 +96,8 @@ pub fn valid(sheet: Sheet) -> bool
 pub fn valid_with(sheet: Sheet, users: &Users) -> bool
     ensures { λ r. ⌜ valid-with≡ sheet (now (users .entry)) r ⌝ }
 {
-    let numbers = numbers::numbers_of(sheet);
-    numbers::are_valid_with(&numbers, users)
+    if !valid(sheet) {
+        return false;
+    }
+    seat::are_good_rows(users, sheet.seats)
 }

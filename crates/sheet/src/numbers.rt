@@ -4,15 +4,14 @@ use super::MOST_SEATS;
 use super::Sheet;
 use super::Users;
 use super::number::is_good_number;
-use super::seat::is_good_row;
+use super::seat::are_good_rows;
 use super::table::LINES;
 use super::table::NUMBER_LINES;
-use super::table::SEATS_LINE;
 ghost use Rattle.sheet.specs.Promises.{numbers-of≡, are-valid≡, are-valid-with≡};
 
 pub type Numbers = [u32; LINES];
 
-// The lines of the server's SSRC, of the messages' numbers and of the Result's ID, counted from 0.
+// The lines of the server's SSRC, of the messages' numbers, of the Result's ID and of the seats, counted from 0.
 pub const SERVER: usize = 0;
 
 pub const REQUEST: usize = 2;
@@ -30,6 +29,8 @@ pub const TX_END_RESPONSE: usize = TX_END + 1;
 pub const ACK: usize = TX_END_RESPONSE + 1;
 
 pub const RESULT_ID: usize = ACK + 1;
+
+pub const SEATS_LINE: usize = RESULT_ID + 1;
 
 // Whether some sheet reads to the struct with these numbers.
 pub fn are_valid(numbers: &Numbers) -> bool
@@ -64,16 +65,7 @@ pub fn are_valid_with(numbers: &Numbers, users: &Users) -> bool
         return false;
     }
     let all = &numbers[..];
-    let seats = all[SEATS_LINE];
-    let rows = &users[..];
-    let mut s = 0;
-    while s < rows.len() {
-        if !is_good_row(users, s, seats) {
-            return false;
-        }
-        s += 1;
-    }
-    true
+    are_good_rows(users, all[SEATS_LINE])
 }
 
 // The numbers of a sheet.

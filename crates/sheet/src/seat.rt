@@ -5,7 +5,9 @@ use super::find::by_user;
 use super::user::is_user_id;
 use super::user::name_length;
 ghost use mathlib.Core.Path.{_≡_};
-ghost use Prim.Native.Nat.{_<_, _≤_};
+ghost use mathlib.Core.Logic.{_↔_};
+ghost use Prim.Native.Nat.{ℕ, _<_, _≤_};
+ghost use lib.Dec.{T};
 ghost use lib.ListN.{length};
 ghost use Rattle.octets.specs.Buffer.{over, zerosFrom};
 ghost use Rattle.sheet.specs.Inner.{newName, goodRow};
@@ -52,6 +54,21 @@ pub fn is_good_row(users: &Users, s: usize, seats: u32) -> bool
         return n == 0;
     }
     is_new_name(users, s as u32, &row[..n])
+}
+
+// Whether every row is.
+pub fn are_good_rows(users: &Users, seats: u32) -> bool
+    ensures { λ r. ⌜ (length (now (users .entry)) ≡ 8) × (T r ↔ ((i : ℕ) → i < 8 → T (goodRow seats (now (users .entry)) i))) ⌝ }
+{
+    let rows = &users[..];
+    let mut s = 0;
+    while s < rows.len() {
+        if !is_good_row(users, s, seats) {
+            return false;
+        }
+        s += 1;
+    }
+    true
 }
 
 // Puts a name into the front of a row.

@@ -19,9 +19,6 @@ pub struct Rule {
 // How many lines have a number alone. The row behind theirs is that of a seat's line.
 pub const NUMBER_LINES: usize = 11;
 
-// The last of them says how many seats follow.
-pub const SEATS_LINE: usize = 10;
-
 // How many lines the longest sheet has.
 pub const LINES: usize = NUMBER_LINES + SEATS;
 

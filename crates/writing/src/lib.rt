@@ -63,5 +63,5 @@ pub fn write(sheet: Sheet, message: Message, names: &[u8], out: &mut [u8]) -> Wr
     if !sheet::numbers::are_valid(&numbers) {
         return refused(12);
     }
-    write_plan(messages::plan_of(&numbers, message), names, out)
+    write_by(&numbers, message, names, out)
 }

@@ -1,6 +1,6 @@
 -- Laws on a value judged without its text: the struct line by line, and the User IDs row by row. Assumes nothing.
 use mathlib.Core.Path.{_≡_, sym, ap, ap₂, _∙_, subst}
-use mathlib.Core.Logic.{⊎-elim}
+use mathlib.Core.Logic.{⊎-elim, _↔_}
 use mathlib.Core.Bool.{Bool, true, false, not, _&&_, and-assoc}
 use mathlib.Core.List.{List, [], _++_, map}
 use Prim.Native.Nat.{ℕ, _+_, _-_, _≤_, _<_}
@@ -329,7 +329,7 @@ module _ (s : Sheet) (users : List (List ℕ)) (eight : length (s .ssrcs) ≡ mo
         (good-names k h))
 
     -- and the value is a sheet's
-    pub rows-valid : T (validWith s users)
+    rows-valid : T (validWith s users)
     unfolding validAlone valid sheetOf
     rows-valid =
         let ns = numbersOf s ++ xs in
@@ -344,6 +344,11 @@ module _ (s : Sheet) (users : List (List ℕ)) (eight : length (s .ssrcs) ≡ mo
         ∙ sym (good-laid (s .seats) users i (good-rows i (omega arith)))
         ∙ getD-default users i [] (rowOf []) l) in
         subst (λ (x : Sheet). T (validWith x users)) q (subst (λ (us : List (List ℕ)). T (validWith (sheetOf es) us)) u (laid-valid es v))
+
+  -- so that the one is judged by the other
+  pub rows-judged : (r : Bool) → T r ↔ ((i : ℕ) → i < mostSeats → T (goodRow (s .seats) users i)) → r ≡ validWith s users
+  rows-judged true h = sym (T-true (validWith s users) (rows-valid (h .0 tt)))
+  rows-judged false h = sym (T-false (validWith s users) (λ v. h .1 (valid-rows v)))
 
 -- a struct that is no sheet's is none with any User IDs
 pub not-alone : (s : Sheet) (users : List (List ℕ)) → validAlone s ≡ false → validWith s users ≡ false

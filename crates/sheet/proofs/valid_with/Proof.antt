@@ -1,26 +1,37 @@
--- `sheet::valid_with` meets its contract: the struct is judged by its numbers and the SSRCs behind them.
--- Assumes nothing.
-use mathlib.Core.Path.{ap, _∙_}
+-- `sheet::valid_with` meets its contract: the struct is judged by itself, and then row by row. Assumes nothing.
+use mathlib.Core.Path.{_≡_, sym, _∙_}
 use borrow.Author.Needs.{needs}
-use denote.Ref.{now}
-use Rattle.sheet.specs.declared.Sheet.{Sheet}
+use borrow.Author.Tests.{not-true, not-false}
+use lib.ListN.{length}
+use Rattle.octets.proofs.Choice.{true-T}
 use Rattle.sheet.specs.Table.{mostSeats}
-use Rattle.sheet.specs.Value.{sheetFrom, validWith}
-use Rattle.sheet.proofs.Laws.Values.{sheetFrom-own}
+use Rattle.sheet.proofs.Laws.Values.{rows-judged, not-alone}
 use Rattle.sheet.proofs.valid_with.Statement.{statement}
 use Rattle.sheet.proofs.valid_with.Tie as tie
 
-numbers-of-requires : tie.Need-numbers-of-requires
-numbers-of-requires c κs = search needs
+-- it has eight SSRCs
+eight : (c : tie.Else1) → length (c .before .before .args .sheet .ssrcs) ≡ mostSeats
+unfolding mostSeats
+eight c = search needs
 
-are-valid-with-requires : tie.Need-are-valid-with-requires
-are-valid-with-requires c κs = search needs
+valid-requires : tie.Need-valid-requires
+valid-requires c κs = search needs
 
 returns : tie.Need-returns
-unfolding mostSeats
 returns c =
-    let a = c .before .before .before .args in
-    c .are-valid-with .ensures ∙ ap (λ (s : Sheet). validWith s (now (a .users))) (ap sheetFrom (c .before .before .numbers-of .ensures) ∙ sheetFrom-own (a .sheet) (search needs))
+    let a = c .before .before .args in
+    sym (not-alone (a .sheet) (a .users .now) (sym (c .before .valid .ensures) ∙ not-true _ (c .if1 .taken)))
+
+are-good-rows-requires : tie.Need-are-good-rows-requires
+are-good-rows-requires c κs = search needs
+
+returns-2 : tie.Need-returns-2
+unfolding mostSeats
+returns-2 c =
+    let else1 = c .before in
+    let a = else1 .before .before .args in
+    let alone = true-T _ (sym (else1 .before .valid .ensures) ∙ not-false _ (else1 .if1 .left)) in
+    rows-judged (a .sheet) (a .users .now) (eight else1) (c .are-good-rows .ensures .0) alone _ (c .are-good-rows .ensures .1)
 
 pub valid-with-spec : {M : Type 1} → statement M
-valid-with-spec = tie.close (tie.spec numbers-of-requires are-valid-with-requires returns)
+valid-with-spec = tie.close (tie.spec valid-requires returns are-good-rows-requires returns-2)

@@ -1,18 +1,17 @@
--- `writing::write` meets its contract: the sheet is checked first, then the message's plan is written, which is the packet of its meaning
--- (`planned-is`). Assumes nothing.
+-- `writing::write` meets its contract: the sheet is checked first, and a valid sheet's numbers fit. Assumes nothing.
 use mathlib.Core.Path.{_≡_, refl, sym, ap, _∙_}
 use lib.ListN.{length}
 use borrow.Author.Needs.{needs}
 use borrow.Author.Tests.{not-true, not-false}
 use denote.Ref.{now}
-use Rattle.octets.proofs.Choice.{true-T}
+use Rattle.octets.proofs.Choice.{T-true, true-T}
 use Rattle.sheet.specs.Table.{mostSeats}
 use Rattle.sheet.specs.Value.{sheetFrom}
 use Rattle.sheet.specs.Promises.{valid≡}
 use Rattle.sheet.proofs.Laws.Values.{sheetFrom-own, judged-own}
-use Rattle.writing.specs.Writing.{writeOf, told, after}
+use Rattle.packet.specs.Kind.{numbersOf}
+use Rattle.writing.specs.Writing.{fits, writeOf, writeBy, told, after}
 use Rattle.writing.proofs.Laws.Kinds.{valid-fits}
-use Rattle.writing.proofs.Laws.Plans.{planned-is}
 use Rattle.writing.proofs.write.Statement.{statement}
 use Rattle.writing.proofs.write.Tie as tie
 
@@ -39,25 +38,22 @@ unfolding writeOf told after
 returns c =
     rw (sym (judged (c .before .before)) ∙ not-true _ (c .before .if1 .taken)) (c .refused .ensures, refl)
 
-plan-of-requires : tie.Need-plan-of-requires
-plan-of-requires c κs = valid-fits _ (true-T _ (sym (c .before .before .are-valid .ensures) ∙ not-false _ (c .before .if1 .left)))
-
-write-plan-requires : tie.Need-write-plan-requires
-write-plan-requires c κs = search needs
+write-by-requires : tie.Need-write-by-requires
+write-by-requires c κs = search needs
 
 same-length : tie.Need-same-length
 same-length c = search needs
 
 returns-2 : tie.Need-returns-2
-unfolding writeOf
+unfolding writeOf writeBy
 returns-2 c =
-    let plan = c .before .before .before .before in
-    let checked = plan .before .before .before in
+    let put = c .before .before in
+    let else1 = put .before .before .before in
+    let checked = else1 .before in
     let a = checked .before .before .before .before .before .args in
-    let valid = sym (judged checked) ∙ not-false _ (plan .before .before .if1 .left) in
+    let valid = sym (judged checked) ∙ not-false _ (else1 .if1 .left) in
     let own = ap sheetFrom (checked .before .before .numbers-of .ensures) ∙ sheetFrom-own (a .sheet) (eight checked) in
-    let means = planned-is (a .sheet) (valid-fits (a .sheet) (true-T _ valid)) (a .message) (now (a .names)) (plan .plan-of .ensures .1) in
-    rw valid (rw (plan .plan-of .ensures .0, own, means) at (c .before .before .write-plan .ensures))
+    rw valid (rw (own, T-true (fits (numbersOf (a .sheet))) (valid-fits (a .sheet) (true-T _ valid))) at (put .write-by .ensures))
 
 pub write-spec : {M : Type 1} → statement M
 write-spec =
@@ -67,7 +63,6 @@ write-spec =
     are-valid-requires
     refused-requires
     returns
-    plan-of-requires
-    write-plan-requires
+    write-by-requires
     same-length
     returns-2)
