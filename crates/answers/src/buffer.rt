@@ -1,49 +1,57 @@
 // A buffer that a message was written into, among the octets of an answer: how many were written (eight octets), the refusal's
 // number and place (four each), the buffer itself, and what was written as it reads back, where something was.
 use super::message;
-use super::number;
+use super::number::part;
+use super::reply::MOST;
+use super::reply::Reply;
+use super::value;
 use sheet::Refusal;
 use sheet::Sheet;
 use writing::Writing;
-ghost use Prim.Native.Nat.{_+_, _≤_};
-ghost use lib.ListN.{length};
+ghost use Prim.Native.Nat.{_≤_};
 
-// Where the buffer begins.
-pub const START: usize = 16;
+// The most octets that a buffer has.
+pub const ROOM: usize = MOST - 16;
+
+// Where the octets begin that the message's names lie in.
+pub const NAMES: usize = value::ROWS + message::LENGTH + 4;
 
 const NOT_REFUSED: Refusal = Refusal { number: 0, at: 0 };
 
-// The octet that stands at a place before the buffer is lent.
-fn octet_for(i: usize) -> u8 {
-    ((i % 251 * 37 + 11) % 251) as u8
-}
-
-// Fills a buffer before it is lent: each octet depends on its place.
-pub fn fill(buffer: &mut [u8]) {
+// The largest buffer before it is lent: each octet depends on its place.
+pub fn filled() -> [u8; ROOM] {
+    let mut buffer = [0u8; ROOM];
     let mut i = 0;
-    while i < buffer.len() {
-        buffer[i] = octet_for(i);
+    while i < ROOM {
+        buffer[i] = ((i % 251 * 37 + 11) % 251) as u8;
         i += 1;
     }
+    buffer
 }
 
-// Puts how many octets were written before a buffer that ends at a place, and what they read to behind it. Gives how many octets
-// were put behind it.
-pub fn put_writing(out: &mut [u8], end: usize, sheet: Sheet, writing: Writing) -> usize
-    requires { ⌜ (16 ≤ end) × (end + 48 ≤ length (now out)) ⌝ }
-    ensures { λ r. ⌜ r ≤ 48 ⌝ }
-{
+// So many octets written into a buffer, the buffer, and what they read to.
+fn read_back(sheet: Sheet, written: usize, buffer: &[u8]) -> Reply {
+    let reading = packet::read(sheet, part(buffer, 0, written));
+    let reply = Reply::empty().result(written, NOT_REFUSED).octets(buffer);
+    message::put_reading(reply, reading)
+}
+
+fn put_writing(sheet: Sheet, writing: Writing, buffer: &[u8; ROOM], room: usize) -> Reply {
+    let lent = part(buffer, 0, room);
     match writing {
-        Writing::Written(written) => {
-            number::put_result(out, 0, written, NOT_REFUSED);
-            let size = number::at_most(written, end - START);
-            let reading = packet::read(sheet, &out[START..START + size]);
-            message::put_reading(&mut out[end..], reading);
-            message::LENGTH
-        }
-        Writing::Refused(refusal) => {
-            number::put_result(out, 0, 0, refusal);
-            0
-        }
+        Writing::Written(written) => read_back(sheet, written, lent),
+        Writing::Refused(refusal) => Reply::empty().result(0, refusal).octets(lent),
     }
+}
+
+// What is written of the message behind a value's numbers, into a buffer of so many octets.
+pub fn write(body: &[u8], room: usize) -> Reply
+    requires { ⌜ room ≤ 956 ⌝ }
+{
+    let sheet = value::sheet_in(body);
+    let message = message::message_in(part(body, value::ROWS, body.len()));
+    let names = part(body, NAMES, body.len());
+    let mut buffer = filled();
+    let writing = writing::write(sheet, message, names, &mut buffer[0..room]);
+    put_writing(sheet, writing, &buffer, room)
 }

@@ -2,99 +2,84 @@
 //
 // Standard input: how many cases there are; then for each an octet for what is asked, a length and that many octets.
 // Standard output: for each case a length and that many octets, the answer. Counts and lengths are four octets, big-endian.
-// What may be asked, 1 to 12, and what then stands in a case and in its answer: question.rt and, from 9 on, schedule.rt.
+// What may be asked, 1 to 14, and what then stands in a case and in its answer: question.rt, from 9 on schedule.rt, from 13 on control.rt.
 mod buffer;
+mod control;
+mod items;
 mod message;
 mod number;
 mod question;
+mod reply;
 mod schedule;
 mod step;
 mod stream;
 mod value;
 
-ghost use Prim.Native.Nat.{_+_, _≤_};
-ghost use lib.ListN.{length};
+use reply::Reply;
 
-// The most octets that an answer takes, with its length before it.
-const MOST: usize = question::MOST + 4;
-
-// Puts the answer to one question at the front of out, and gives its length. A question that is not known has an empty one.
-fn answer(asked: u8, body: &[u8], out: &mut [u8]) -> usize
-    ensures { λ r. ⌜ r ≤ 1020 ⌝ }
-{
+// The answer to one question. A question that is not known has an empty one.
+fn answer(asked: u8, body: &[u8]) -> Reply {
     match asked {
-        1 => question::read(body, out),
-        2 => question::valid(body, out),
-        3 => question::by_ssrc(body, out),
-        4 => question::by_user(body, out),
-        5 => question::is_user_id(body, out),
-        6 => question::packets(body, out),
-        7 => question::fields(body, out),
-        8 => question::write(body, out),
-        9 => schedule::attempts(body, out),
-        10 => schedule::steps(body, out),
-        11 => schedule::schedules(body, out),
-        12 => schedule::stores_of_any(body, out),
-        _ => 0,
+        1 => question::read(body),
+        2 => question::valid(body),
+        3 => question::by_ssrc(body),
+        4 => question::by_user(body),
+        5 => question::is_user_id(body),
+        8 => question::write(body),
+        10 => schedule::steps(body),
+        14 => control::packet(body),
+        _ => items::each(asked, body),
     }
 }
 
-// Puts an answer's length and the answer at the front of out, and gives how many octets that took.
-fn record(asked: u8, body: &[u8], out: &mut [u8]) -> usize
-    ensures { λ r. ⌜ r ≤ 1024 ⌝ }
-{
-    if out.len() < 4 {
-        return 0;
-    }
-    let n = answer(asked, body, &mut out[4..]);
-    octets::put_u32(out, 0, n as u32);
-    4 + n
+// Writes an answer's length and the answer.
+fn write(octets: &[u8; reply::MOST], length: usize) {
+    let answer = number::part(octets, 0, length);
+    let mut head = [0u8; 4];
+    octets::put_u32(&mut head, 0, (answer.len() % 4294967296) as u32);
+    io::write_all(1, &head);
+    io::write_all(1, answer);
 }
 
-// Reads the next case, its octets into body, and puts its answer at the front of out. A case too long for body has none.
-fn next(body: &mut [u8], out: &mut [u8]) -> usize
-    ensures { λ r. ⌜ r ≤ 1024 ⌝ }
-{
+// What is asked next, and the length of its case.
+struct Asked {
+    what: u8,
+    length: usize,
+}
+
+fn read_head() -> Asked {
     let mut head = [0u8; 5];
     io::read_full(0, &mut head);
-    let length = octets::u32_at(&head, 1) as usize;
+    Asked {
+        what: head[0],
+        length: octets::u32_at(&head, 1) as usize,
+    }
+}
+
+// Reads the next case, its octets into body, and writes its answer. A case too long for body has none.
+fn next(body: &mut [u8]) {
+    let head = read_head();
+    let length = head.length;
     if body.len() < length {
-        return 0;
+        return;
     }
     let n = io::read_full(0, &mut body[0..length]);
-    record(head[0], &body[0..n], out)
+    let answer = answer(head.what, number::part(body, 0, n));
+    write(&answer.octets, answer.length);
 }
 
-// Writes the octets gathered in out where there may be no room for one more answer, and gives how many are still there.
-fn make_room(out: &[u8], gathered: usize) -> usize
-    requires { ⌜ (1024 ≤ length (now out)) × (gathered ≤ length (now out)) ⌝ }
-    ensures { λ r. ⌜ r + 1024 ≤ length (now (out .entry)) ⌝ }
-{
-    if MOST <= out.len() - gathered {
-        return gathered;
-    }
-    io::write_all(1, &out[0..gathered]);
-    0
-}
-
-// Answers so many cases, and gathers the answers in out.
-fn answer_all(cases: u32, body: &mut [u8], out: &mut [u8])
-    requires { ⌜ 1024 ≤ length (now out) ⌝ }
-{
+// Answers so many cases.
+fn answer_all(cases: u32, body: &mut [u8]) {
     let mut left = cases;
-    let mut gathered = 0;
     while 0 < left {
+        next(body);
         left -= 1;
-        gathered = make_room(out, gathered);
-        gathered += next(body, &mut out[gathered..]);
     }
-    io::write_all(1, &out[0..gathered]);
 }
 
 fn main() {
     let mut count = [0u8; 4];
     io::read_full(0, &mut count);
     let mut body = io::large_buffer();
-    let mut out = io::large_buffer();
-    answer_all(octets::u32_at(&count, 0), &mut body, &mut out);
+    answer_all(octets::u32_at(&count, 0), &mut body);
 }

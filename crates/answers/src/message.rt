@@ -2,6 +2,7 @@
 // length of the User ID and of the named transmitter, 0 and 0 where there is none; Result, cause, Indicator, Source and Message
 // Type, NONE where there is none. Of a refusal to read one they are 0, its number, its place, and zeros.
 use super::number;
+use super::reply::Reply;
 use packet::Head;
 use packet::Indicator;
 use packet::Message;
@@ -19,50 +20,63 @@ const NONE: u32 = 4294967295;
 // Stands for a name that a message has not.
 const NOBODY: Name = Name { at: 0, len: 0 };
 
-fn given(indicator: Indicator) -> u32 {
-    match indicator {
+// The numbers of a message: its kind, its head and names, Result, cause, Indicator, and no Source or Message Type.
+fn row(
+    kind: u32,
+    head: Head,
+    user: Name,
+    named: Name,
+    result: u32,
+    cause: u32,
+    i: Indicator,
+) -> [u32; 12] {
+    let given = match i {
         Indicator::Absent => NONE,
         Indicator::Given(n) => n as u32,
-    }
-}
-
-// Result, cause, Indicator, and no Source or Message Type.
-fn values(result: u32, cause: u32, indicator: Indicator) -> [u32; 5] {
-    [result, cause, given(indicator), NONE, NONE]
-}
-
-fn judged(verdict: Verdict, indicator: Indicator) -> [u32; 5] {
-    match verdict {
-        Verdict::Granted => values(1, NONE, indicator),
-        Verdict::Rejected(cause) => values(0, cause as u32, indicator),
-    }
-}
-
-fn asked(head: Head) -> u32 {
-    if head.ack { 1 } else { 0 }
-}
-
-// A message's numbers: its names, and behind them Result, cause, Indicator, Source and Message Type.
-fn row(kind: u32, head: Head, user: Name, named: Name, v: [u32; 5]) -> [u32; 12] {
+    };
     [
         kind,
         head.ssrc,
-        asked(head),
+        head.ack as u32,
         user.at,
         user.len,
         named.at,
         named.len,
-        v[0],
-        v[1],
-        v[2],
-        v[3],
-        v[4],
+        result,
+        cause,
+        given,
+        NONE,
+        NONE,
     ]
 }
 
-// A message without a name.
-fn nameless(kind: u32, head: Head, v: [u32; 5]) -> [u32; 12] {
-    row(kind, head, NOBODY, NOBODY, v)
+// Those of a message without a name.
+fn nameless(kind: u32, head: Head, result: u32, cause: u32, i: Indicator) -> [u32; 12] {
+    row(kind, head, NOBODY, NOBODY, result, cause, i)
+}
+
+fn response(head: Head, verdict: Verdict, i: Indicator) -> [u32; 12] {
+    match verdict {
+        Verdict::Granted => nameless(2, head, 1, NONE, i),
+        Verdict::Rejected(cause) => nameless(2, head, 0, cause as u32, i),
+    }
+}
+
+fn ack(h: Head, source: u16, about: u8) -> [u32; 12] {
+    [
+        7,
+        h.ssrc,
+        h.ack as u32,
+        0,
+        0,
+        0,
+        0,
+        NONE,
+        NONE,
+        NONE,
+        source as u32,
+        about as u32,
+    ]
 }
 
 fn numbers_of(message: Message) -> [u32; 12] {
@@ -72,36 +86,43 @@ fn numbers_of(message: Message) -> [u32; 12] {
             user,
             source,
             indicator,
-        } => row(1, head, user, source, values(NONE, NONE, indicator)),
+        } => row(1, head, user, source, NONE, NONE, indicator),
         Message::ReceiveResponse {
             head,
             verdict,
             indicator,
-        } => nameless(2, head, judged(verdict, indicator)),
+        } => response(head, verdict, indicator),
         Message::EndRequest {
             head,
-            transmitter: t,
+            transmitter,
             indicator,
-        } => row(3, head, NOBODY, t, values(NONE, NONE, indicator)),
-        Message::EndResponse { head, transmitter } => row(4, head, NOBODY, transmitter, [NONE; 5]),
+        } => row(3, head, NOBODY, transmitter, NONE, NONE, indicator),
+        Message::EndResponse { head, transmitter } => row(
+            4,
+            head,
+            NOBODY,
+            transmitter,
+            NONE,
+            NONE,
+            Indicator::Absent,
+        ),
         Message::TransmissionEnd {
             head,
             cause,
             indicator,
-        } => nameless(5, head, values(NONE, cause as u32, indicator)),
-        Message::TransmissionEndResponse { head } => nameless(6, head, [NONE; 5]),
+        } => nameless(5, head, NONE, cause as u32, indicator),
+        Message::TransmissionEndResponse { head } => nameless(
+            6,
+            head,
+            NONE,
+            NONE,
+            Indicator::Absent,
+        ),
         Message::Ack {
             head,
             source,
             about,
-        } => nameless(7, head, [NONE, NONE, NONE, source as u32, about as u32]),
-    }
-}
-
-fn head_in(body: &[u8]) -> Head {
-    Head {
-        ssrc: number::nth(body, 1),
-        ack: number::nth(body, 2) == 1,
+        } => ack(head, source, about),
     }
 }
 
@@ -133,7 +154,10 @@ fn indicator_in(body: &[u8]) -> Indicator {
 
 // The message at the front of a body.
 pub fn message_in(body: &[u8]) -> Message {
-    let head = head_in(body);
+    let head = Head {
+        ssrc: number::nth(body, 1),
+        ack: number::nth(body, 2) == 1,
+    };
     let transmitter = name_in(body, 5);
     let indicator = indicator_in(body);
     match number::nth(body, 0) {
@@ -163,16 +187,8 @@ pub fn message_in(body: &[u8]) -> Message {
         _ => Message::Ack {
             head,
             source: number::short(body, 10),
-            about: number::octet(body, 11),
+            about: (number::nth(body, 11) % 256) as u8,
         },
-    }
-}
-
-fn put_numbers(out: &mut [u8], numbers: [u32; 12]) {
-    let mut k = 0;
-    while k < 12 {
-        number::put_nth(out, k, numbers[k]);
-        k += 1;
     }
 }
 
@@ -183,7 +199,7 @@ fn row_of(reading: Reading) -> [u32; 12] {
     }
 }
 
-// Puts what a packet reads to at the front of out.
-pub fn put_reading(out: &mut [u8], reading: Reading) {
-    put_numbers(out, row_of(reading));
+// Puts what a packet reads to.
+pub fn put_reading(reply: Reply, reading: Reading) -> Reply {
+    reply.numbers(&row_of(reading))
 }

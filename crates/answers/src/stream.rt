@@ -5,19 +5,15 @@
 // wanted; the answer. A count stands in place of the record. An answer is seven: its number (1 grant, 2 reject, 3 ended, 4 end request,
 // 5 freed by an end response, 6 opened, 7 released, 8 discarded), the kind of the message or 0, Result or 255, cause (two octets) or
 // 65535, the timers to stop and those to start, each a sum of T3 1, T5 2, T6 4, T11 8.
-use super::value::octet_at;
-use super::value::put_octet;
+use super::number::octet_at;
+use super::reply::Reply;
 use reception::Answer;
 use reception::Attempt;
-use reception::Counted;
 use reception::Event;
 use reception::Phase;
 use reception::Record;
-use reception::Seen;
 use reception::Streams;
-use reception::Taking;
 use reception::What;
-use reception::Worked;
 use sheet::Refusal;
 ghost use Prim.Native.Nat.{_<_};
 
@@ -32,56 +28,47 @@ pub const SAID: usize = 14;
 
 pub type Said = [u8; SAID];
 
-fn phase_in(octet: u8) -> Phase {
-    match octet {
+pub fn record_in(body: &[u8], at: usize) -> Record
+    requires { ⌜ at < 4096 ⌝ }
+{
+    let phase = match octet_at(body, at) {
         0 => Phase::Free,
         1 => Phase::Idle,
         2 => Phase::Watched,
         _ => Phase::Ending,
-    }
-}
-
-pub fn record_in(body: &[u8], at: usize) -> Record
-    requires { ⌜ at < 4096 ⌝ }
-{
+    };
     Record {
-        phase: phase_in(octet_at(body, at)),
+        phase,
         receivers: octet_at(body, at + 1),
     }
 }
 
-pub fn records_in(body: &[u8], at: usize) -> Streams
-    requires { ⌜ at < 1024 ⌝ }
-{
-    let first = record_in(body, at);
-    let mut records = [first; 8];
-    let mut k = 1;
-    while k < 8 {
-        records[k] = record_in(body, at + k * RECORD);
-        k += 1;
-    }
-    records
-}
-
-fn what_in(what: u8, by: u8, ack: bool) -> What {
-    match what {
-        1 => What::Request(by),
-        2 => What::End(by),
-        3 => What::Open,
-        4 => What::T11,
-        5 => What::EndResponse(ack),
-        _ => What::Release,
-    }
+// The eight records behind a value's numbers.
+pub fn records_in(body: &[u8]) -> Streams {
+    [
+        record_in(body, 76),
+        record_in(body, 78),
+        record_in(body, 80),
+        record_in(body, 82),
+        record_in(body, 84),
+        record_in(body, 86),
+        record_in(body, 88),
+        record_in(body, 90),
+    ]
 }
 
 pub fn event_in(body: &[u8], at: usize) -> Event
     requires { ⌜ at < 4096 ⌝ }
 {
-    let what = what_in(
-        octet_at(body, at),
-        octet_at(body, at + 2),
-        octet_at(body, at + 3) == 1,
-    );
+    let by = octet_at(body, at + 2);
+    let what = match octet_at(body, at) {
+        1 => What::Request(by),
+        2 => What::End(by),
+        3 => What::Open,
+        4 => What::T11,
+        5 => What::EndResponse(octet_at(body, at + 3) == 1),
+        _ => What::Release,
+    };
     Event {
         stream: octet_at(body, at + 1),
         what,
@@ -98,120 +85,88 @@ fn phase_octet(x: Record) -> u8 {
     }
 }
 
-fn low(n: u16) -> u8 {
-    (n % 256) as u8
-}
+// An answer's number, kind, Result, cause, timers to stop, timers to start.
+struct Shown(u8, u8, u8, u16, u8, u8);
 
-fn high(n: u16) -> u8 {
-    (n / 256) as u8
-}
-
-fn shown(answer: Answer) -> [u8; 7] {
+fn show(answer: Answer) -> Shown {
     match answer {
-        Answer::GrantedFirst => [1, 2, 1, 255, 255, 10, 4],
-        Answer::Granted => [1, 2, 1, 255, 255, 2, 4],
-        Answer::GrantedAgain => [1, 2, 1, 255, 255, 0, 0],
-        Answer::Rejected(cause) => [2, 2, 0, high(cause), low(cause), 0, 0],
-        Answer::Ended => [3, 4, 255, 255, 255, 0, 0],
-        Answer::EndedLast => [3, 4, 255, 255, 255, 0, 8],
-        Answer::Opened => [6, 0, 255, 255, 255, 0, 8],
-        Answer::EndRequested(cause) => [4, 5, 255, high(cause), low(cause), 0, 1],
-        Answer::Freed => [5, 0, 255, 255, 255, 1, 0],
-        Answer::FreedWithAck => [5, 7, 255, 255, 255, 1, 0],
-        Answer::ReleasedIdle => [7, 0, 255, 255, 255, 8, 0],
-        Answer::ReleasedWatched => [7, 0, 255, 255, 255, 0, 0],
-        Answer::ReleasedEnding => [7, 0, 255, 255, 255, 1, 0],
-        Answer::Discarded => [8, 0, 255, 255, 255, 0, 0],
+        Answer::GrantedFirst => Shown(1, 2, 1, 65535, 10, 4),
+        Answer::Granted => Shown(1, 2, 1, 65535, 2, 4),
+        Answer::GrantedAgain => Shown(1, 2, 1, 65535, 0, 0),
+        Answer::Rejected(cause) => Shown(2, 2, 0, cause, 0, 0),
+        Answer::Ended => Shown(3, 4, 255, 65535, 0, 0),
+        Answer::EndedLast => Shown(3, 4, 255, 65535, 0, 8),
+        Answer::Opened => Shown(6, 0, 255, 65535, 0, 8),
+        Answer::EndRequested(cause) => Shown(4, 5, 255, cause, 0, 1),
+        Answer::Freed => Shown(5, 0, 255, 65535, 1, 0),
+        Answer::FreedWithAck => Shown(5, 7, 255, 65535, 1, 0),
+        Answer::ReleasedIdle => Shown(7, 0, 255, 65535, 8, 0),
+        Answer::ReleasedWatched => Shown(7, 0, 255, 65535, 0, 0),
+        Answer::ReleasedEnding => Shown(7, 0, 255, 65535, 1, 0),
+        Answer::Discarded => Shown(8, 0, 255, 65535, 0, 0),
     }
 }
 
 // ---- what a step says
 
-fn refused(refusal: Refusal) -> Said {
+pub fn refused(refusal: Refusal) -> Said {
     let number = (refusal.number % 256) as u8;
     let at = (refusal.at % 256) as u8;
     [number, at, 0, 0, 0, 0, 0, 0, 0, 0, 0, 0, 0, 0]
 }
 
-// A stream, four octets of records or of a count, and an answer.
-fn given(stream: u8, v: [u8; 4], a: [u8; 7]) -> Said {
-    [
-        0,
-        0,
-        stream,
-        v[0],
-        v[1],
-        v[2],
-        v[3],
-        a[0],
-        a[1],
-        a[2],
-        a[3],
-        a[4],
-        a[5],
-        a[6],
-    ]
+pub fn seen(stream: u8, x: Record) -> Said {
+    let phase = phase_octet(x);
+    [0, 0, stream, phase, x.receivers, 0, 0, 0, 0, 0, 0, 0, 0, 0]
 }
 
-pub fn seen_said(stream: u8, seen: Seen) -> Said {
-    match seen {
-        Seen::Read(x) => given(stream, [phase_octet(x), x.receivers, 0, 0], [0; 7]),
-        Seen::Refused(refusal) => refused(refusal),
-    }
+pub fn counted(stream: u8, n: u32) -> Said {
+    let count = (n % 256) as u8;
+    [0, 0, stream, count, 0, 0, 0, 0, 0, 0, 0, 0, 0, 0]
 }
 
-pub fn counted_said(stream: u8, counted: Counted) -> Said {
-    match counted {
-        Counted::Count(n) => given(stream, [(n % 256) as u8, 0, 0, 0], [0; 7]),
-        Counted::Refused(refusal) => refused(refusal),
-    }
-}
-
-fn attempt_said(attempt: Attempt) -> Said {
+pub fn worked_out(attempt: Attempt) -> Said {
     let x = attempt.seen;
     let y = attempt.wanted;
     let answer = attempt.answer;
-    given(
+    let a = show(answer);
+    let high = (a.3 / 256) as u8;
+    let low = (a.3 % 256) as u8;
+    [
+        0,
+        0,
         attempt.stream,
-        [phase_octet(x), x.receivers, phase_octet(y), y.receivers],
-        shown(answer),
-    )
+        phase_octet(x),
+        x.receivers,
+        phase_octet(y),
+        y.receivers,
+        a.0,
+        a.1,
+        a.2,
+        high,
+        low,
+        a.4,
+        a.5,
+    ]
 }
 
-pub fn worked_said(worked: Worked) -> Said {
-    match worked {
-        Worked::Out(attempt) => attempt_said(attempt),
-        Worked::Refused(refusal) => refused(refusal),
-    }
-}
-
-pub fn taking_said(stream: u8, taking: Taking) -> Said {
-    match taking {
-        Taking::Took(answer) => given(stream, [0; 4], shown(answer)),
-        Taking::Refused(refusal) => refused(refusal),
-    }
+pub fn taken(stream: u8, answer: Answer) -> Said {
+    let a = show(answer);
+    let high = (a.3 / 256) as u8;
+    let low = (a.3 % 256) as u8;
+    [0, 0, stream, 0, 0, 0, 0, a.0, a.1, a.2, high, low, a.4, a.5]
 }
 
 // ---- put into an answer
 
-pub fn put_said(out: &mut [u8], at: usize, said: Said)
-    requires { ⌜ at < 4096 ⌝ }
-{
-    let mut k = 0;
-    while k < SAID {
-        put_octet(out, at + k, said[k]);
-        k += 1;
-    }
-}
-
-pub fn put_records(out: &mut [u8], at: usize, records: Streams)
-    requires { ⌜ at < 4096 ⌝ }
-{
+pub fn put_records(reply: Reply, records: Streams) -> Reply {
+    let mut octets = [0u8; RECORDS];
     let mut k = 0;
     while k < 8 {
         let x = records[k];
-        put_octet(out, at + k * RECORD, phase_octet(x));
-        put_octet(out, at + k * RECORD + 1, x.receivers);
+        octets[k * RECORD] = phase_octet(x);
+        octets[k * RECORD + 1] = x.receivers;
         k += 1;
     }
+    reply.octets(&octets)
 }

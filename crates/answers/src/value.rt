@@ -1,6 +1,8 @@
 // A sheet's value among the octets of a case or an answer: its eleven numbers and eight SSRCs, four octets each, then its
 // eight rows of User IDs.
 use super::number;
+use super::number::octet_at;
+use super::reply::Reply;
 use sheet::Sheet;
 ghost use Prim.Native.Nat.{_<_};
 
@@ -9,11 +11,6 @@ pub const ROWS: usize = 76;
 
 // How many octets a value takes.
 pub const LENGTH: usize = ROWS + 480;
-
-// The octet at a place; 0 past the end.
-pub fn octet_at(body: &[u8], at: usize) -> u8 {
-    if at < body.len() { body[at] } else { 0 }
-}
 
 fn ssrcs_in(body: &[u8]) -> [u32; 8] {
     [
@@ -73,28 +70,12 @@ pub fn users_in(body: &[u8]) -> [[u8; 60]; 8] {
     ]
 }
 
-// Puts a sheet's numbers at the front of out.
-pub fn put_sheet(out: &mut [u8], sheet: Sheet) {
-    let numbers = sheet::numbers::numbers_of(sheet);
-    let mut k = 0;
-    while k < 19 {
-        number::put_nth(out, k, numbers[k]);
-        k += 1;
+// Puts the User IDs.
+pub fn put_users(mut reply: Reply, users: &[[u8; 60]; 8]) -> Reply {
+    let mut s = 0;
+    while s < 8 {
+        reply = reply.octets(&users[s][..]);
+        s += 1;
     }
-}
-
-// Puts one octet at a place, where there is room.
-pub fn put_octet(out: &mut [u8], at: usize, octet: u8) {
-    if at < out.len() {
-        out[at] = octet;
-    }
-}
-
-// Puts the User IDs behind the numbers.
-pub fn put_users(out: &mut [u8], users: &[[u8; 60]; 8]) {
-    let mut i = 0;
-    while i < 480 {
-        put_octet(out, ROWS + i, users[i / 60][i % 60]);
-        i += 1;
-    }
+    reply
 }

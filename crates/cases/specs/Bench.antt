@@ -3,7 +3,7 @@
 use mathlib.Core.Path.{_≡_}
 use Prim.Native.Nat.{ℕ, _+_, _-_, _*_}
 use Prim.Native.String.{String}
-use mathlib.Core.Bool.{false}
+use mathlib.Core.Bool.{false, _&&_}
 use mathlib.Core.List.{List, [], _∷_, _++_, map}
 use mathlib.Core.Option.{Option, none, some}
 use lib.ListN.{length, replicate}
@@ -46,21 +46,24 @@ textWith limit =
 unfoldable pub sheetWith : String → Sheet
 sheetWith limit = sheet.readOf (textWith limit) .sheet
 
+abbrev pub limitS : String
+limitS = "limit=1"
+
 abbrev pub S : Sheet
-S = sheetWith "limit=1"
+S = sheetWith limitS
 
 unfoldable pub usersS : List (List ℕ)
-usersS = sheet.usersIn (textWith "limit=1")
+usersS = sheet.usersIn (textWith limitS)
 
 -- ---- how a line is written
 
--- octets as document 01 prints them: two digits, 0 to 9 and A to F, for each
+-- octets as document 01 prints them: two digits, 0 to 9 and A to F, for each; what is none makes a number that is no octet
 abbrev pub digitValue : ℕ → ℕ
-digitValue c = pick (leb 65 c) (c - 55) (c - 48)
+digitValue c = pick (leb 48 c && leb c 57) (c - 48) (pick (leb 65 c && leb c 70) (c - 55) 256)
 
 abbrev pub pairs : List ℕ → List ℕ
 pairs [] = []
-pairs (high ∷ []) = []
+pairs (high ∷ []) = 256 ∷ []
 pairs (high ∷ low ∷ rest) = (digitValue high * 16 + digitValue low) ∷ pairs rest
 
 abbrev pub hex : String → List ℕ
@@ -194,16 +197,17 @@ stepOf (read by x) = reads by 0
 stepOf (workedOut by x what a) = worksOut by x (on0 what)
 stepOf (stored by a what said y) = stores by a (on0 what)
 
--- what the step says and leaves of the eight records, by the definition that its function's own promise cites
-abbrev pub Comes : List Record → Moment → Type 0
-Comes rs (read by x) = readOf S 0 rs ≡ leaving rs (gives x)
-Comes rs (workedOut by x what a) = workOf S x (on0 what) rs ≡ leaving rs (gives a)
-Comes rs (stored by a what said y) = storeOf S a rs ≡ leaving (stream0 y) said
+-- what the step says and leaves of the eight records, by the definition that its function's own promise cites; a routine works out on what it
+-- read last
+abbrev pub Comes : State → Moment → Type 0
+Comes m (read by x) = readOf S 0 (m .records) ≡ leaving (m .records) (gives x)
+Comes m (workedOut by x what a) = (m .lastRead by 0 ≡ some x) × (workOf S x (on0 what) (m .records) ≡ leaving (m .records) (gives a))
+Comes m (stored by a what said y) = storeOf S a (m .records) ≡ leaving (stream0 y) said
 
 -- one after another, from a state of the schedule
 abbrev pub Plays : State → List Moment → Type 0
 Plays m [] = Unit {0}
-Plays m (x ∷ xs) = Comes (m .records) x × Plays (after S (stepOf x) m) xs
+Plays m (x ∷ xs) = Comes m x × Plays (after S (stepOf x) m) xs
 
 -- it is a schedule of which demand 3 speaks, each step comes out so, this is the record at the end, and these events took
 abbrev pub Runs : Record → List Moment → Record → List Answered → Type 0

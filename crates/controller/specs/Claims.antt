@@ -104,27 +104,27 @@ abbrev pub fromServer : Sheet → ℕ → List Value → Option Meaning
 fromServer s kind values = some (record { kind = kind; ssrc = s .server; ack = false; values = values })
 
 -- the message that document 01 names for each answer
-abbrev pub named01 : Sheet → List ℕ → Answer → Option Meaning
-named01 s transmitter GrantedFirst = fromServer s 2 (numeral 1 ∷ nothing ∷ nothing ∷ [])
-named01 s transmitter Granted = fromServer s 2 (numeral 1 ∷ nothing ∷ nothing ∷ [])
-named01 s transmitter GrantedAgain = fromServer s 2 (numeral 1 ∷ nothing ∷ nothing ∷ [])
-named01 s transmitter (Rejected cause) = fromServer s 2 (numeral 0 ∷ numeral cause ∷ nothing ∷ [])
-named01 s transmitter Ended = fromServer s 4 (spelt transmitter ∷ [])
-named01 s transmitter EndedLast = fromServer s 4 (spelt transmitter ∷ [])
-named01 s transmitter Opened = none
-named01 s transmitter (EndRequested cause) = fromServer s 5 (numeral cause ∷ nothing ∷ [])
-named01 s transmitter Freed = none
-named01 s transmitter FreedWithAck = fromServer s 7 (numeral 2 ∷ numeral 1 ∷ [])
-named01 s transmitter ReleasedIdle = none
-named01 s transmitter ReleasedWatched = none
-named01 s transmitter ReleasedEnding = none
-named01 s transmitter Discarded = none
+abbrev pub messageFor : Sheet → List ℕ → Answer → Option Meaning
+messageFor s transmitter GrantedFirst = fromServer s 2 (numeral 1 ∷ nothing ∷ nothing ∷ [])
+messageFor s transmitter Granted = fromServer s 2 (numeral 1 ∷ nothing ∷ nothing ∷ [])
+messageFor s transmitter GrantedAgain = fromServer s 2 (numeral 1 ∷ nothing ∷ nothing ∷ [])
+messageFor s transmitter (Rejected cause) = fromServer s 2 (numeral 0 ∷ numeral cause ∷ nothing ∷ [])
+messageFor s transmitter Ended = fromServer s 4 (spelt transmitter ∷ [])
+messageFor s transmitter EndedLast = fromServer s 4 (spelt transmitter ∷ [])
+messageFor s transmitter Opened = none
+messageFor s transmitter (EndRequested cause) = fromServer s 5 (numeral cause ∷ nothing ∷ [])
+messageFor s transmitter Freed = none
+messageFor s transmitter FreedWithAck = fromServer s 7 (numeral 2 ∷ numeral 1 ∷ [])
+messageFor s transmitter ReleasedIdle = none
+messageFor s transmitter ReleasedWatched = none
+messageFor s transmitter ReleasedEnding = none
+messageFor s transmitter Discarded = none
 
 -- What is written for an answer is made of octets, canonical, and reads back as the message that document 01 names for it.
 abbrev pub SendsNamed : Type 0
 SendsNamed =
     (s : Sheet) (users : List (List ℕ)) (stream room : ℕ) (a : Answer) (p : List ℕ) → sendingOf s users stream (messageOf a) room ≡ gives (some p)
-    → T (areOctets p) × T (canonical (numbersOf s) p) × (meaning p (readOf s p) ≡ named01 s (userOf users stream) a)
+    → T (areOctets p) × T (canonical (numbersOf s) p) × (meaning p (readOf s p) ≡ messageFor s (userOf users stream) a)
 
 -- the cause of a message, if it has one, goes into 16 bits, as the code's type says
 abbrev pub narrow : Option Sent → Bool
@@ -144,8 +144,8 @@ pub record SentInto (s : Sheet) (users : List (List ℕ)) (stream : ℕ) (a : An
 abbrev pub SendsExactly : Type 0
 SendsExactly =
     (s : Sheet) (users : List (List ℕ)) (stream : ℕ) (a : Answer) → T (validWith s users) → stream < s .seats → T (narrow (messageOf a))
-    → ((m : Meaning) → named01 s (userOf users stream) a ≡ some m → (p : List ℕ) × ((room : ℕ) → SentInto s users stream a p room))
-    × (named01 s (userOf users stream) a ≡ none → (room : ℕ) → sendingOf s users stream (messageOf a) room ≡ gives none)
+    → ((m : Meaning) → messageFor s (userOf users stream) a ≡ some m → (p : List ℕ) × ((room : ℕ) → SentInto s users stream a p room))
+    × (messageFor s (userOf users stream) a ≡ none → (room : ℕ) → sendingOf s users stream (messageOf a) room ≡ gives none)
 
 -- Before that comes 12, and then 9 for a stream that is not on the sheet, also where nothing is to be sent.
 abbrev pub SendingRefused : Type 0

@@ -12,7 +12,8 @@ use Rattle.sheet.specs.declared.Senders.{Senders}
 use Rattle.sheet.specs.Value.{nameOf, validWith}
 use Rattle.sheet.specs.Find.{seatOfSsrc, seatOfUser}
 use Rattle.packet.specs.Reading.{Outcome, reads, refused, readOf}
-use Rattle.writing.specs.Meaning.{Value, nothing, numeral, spelt, nowhere, Meaning, valueIn}
+use Rattle.writing.specs.Meaning.{Value, nothing, Meaning, valueIn}
+use Rattle.writing.specs.Packet.{nameHeld}
 use Rattle.reception.specs.declared.Event.{Event}
 use Rattle.reception.specs.declared.What.{What}
 use Rattle.reception.specs.declared.What.the-variants.{Request, End, EndResponse}
@@ -37,15 +38,9 @@ seated number (some r) next = next r
 
 -- ---- what a message says
 
--- the name in a message's values, by its place in the order written
-abbrev pub speltAs : Value → List ℕ
-speltAs nothing = []
-speltAs (numeral n) = []
-speltAs (spelt xs) = xs
-speltAs nowhere = []
-
+-- the name among a message's values, by its place in the order written
 abbrev pub nameIn : ℕ → List Value → List ℕ
-nameIn k values = speltAs (getD values k nothing)
+nameIn k values = nameHeld (getD values k nothing)
 
 -- ---- the event
 

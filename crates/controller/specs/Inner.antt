@@ -1,6 +1,5 @@
 -- What the inner functions say. The public promises rest on these, and nobody need believe them: each is only a step of a proof.
 -- Assumes nothing.
-use mathlib.Core.Path.{_≡_}
 use Prim.Native.Nat.{ℕ}
 use mathlib.Core.List.{List}
 use mathlib.Core.Bool.{false}
@@ -27,7 +26,7 @@ use Rattle.reception.specs.Steps.{Said, gives, refuses}
 use Rattle.controller.specs.declared.Sending.{Sending}
 use Rattle.controller.specs.declared.answer.Outgoing.{Outgoing}
 use Rattle.controller.specs.declared.answer.Outgoing.the-variants.{Message as Outgoes, Nothing}
-use Rattle.controller.specs.Sending.{parcelOf, told, sendingSaid, after}
+use Rattle.controller.specs.Sending.{parcelOf, Tells}
 
 -- ---- packets
 
@@ -79,8 +78,6 @@ abbrev pub sendingFrom : Wrote → Said (Option ℕ)
 sendingFrom (wrote octets) = gives (some octets)
 sendingFrom (refusedWith number at) = refuses number at
 
--- what is said, and what the buffer holds
-abbrev pub Sent≡ : Sheet → List ℕ → Option Sent → List ℕ → Sending → List ℕ → Type 0
-Sent≡ s row message out r now =
-    let w = parcelOf s (nameOf row) (length out) message in
-    (sendingSaid r ≡ told w) × (now ≡ after w out)
+-- what is sent on the stream of the transmitter whose User ID the row holds
+abbrev pub SentFrom : Sheet → List ℕ → Option Sent → List ℕ → Sending → List ℕ → Type 0
+SentFrom s row message out r now = Tells (parcelOf s (nameOf row) (length out) message) out r now

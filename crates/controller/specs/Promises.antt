@@ -16,7 +16,7 @@ use Rattle.controller.specs.declared.Offered.the-variants.{Event as Offe
 use Rattle.controller.specs.declared.Sending.{Sending}
 use Rattle.controller.specs.declared.Sending.the-variants.{Written, Nothing, Refused as SendingRefused}
 use Rattle.controller.specs.Event.{eventOf, offeredSaid}
-use Rattle.controller.specs.Sending.{sendingOf, told, sendingSaid, after}
+use Rattle.controller.specs.Sending.{sendingOf, sendingSaid, Tells}
 
 -- ---- answers that say the same are the same: from what is said the answer is got back
 
@@ -58,9 +58,7 @@ event-of-once sheet users p x y e f = one-answer offeredSaid offered-apart x y e
 
 -- how many octets were written, that there is nothing to send, or the refusal; and the buffer
 abbrev pub packet-of≡ : Sheet → List (List ℕ) → ℕ → Answer → List ℕ → Sending → List ℕ → Type 0
-packet-of≡ sheet users stream a out r now =
-    let w = sendingOf sheet users stream (messageOf a) (length out) in
-    (sendingSaid r ≡ told w) × (now ≡ after w out)
+packet-of≡ sheet users stream a out r now = Tells (sendingOf sheet users stream (messageOf a) (length out)) out r now
 
 pub packet-of-once : (sheet : Sheet) (users : List (List ℕ)) (stream : ℕ) (a : Answer) (out : List ℕ) (x y : Sending) (now other : List ℕ)
     → packet-of≡ sheet users stream a out x now → packet-of≡ sheet users stream a out y other → (x ≡ y) × (now ≡ other)

@@ -1,5 +1,6 @@
 -- The packet that an answer sends (document 01, "Stream record": "Messages out carry the server's SSRC, no Indicator, and the first subtype bit
 -- clear by default. An end response names the transmitter's User ID"; "Refusals": 12 line 0, 9, 11). Assumes nothing.
+use mathlib.Core.Path.{_≡_}
 use Prim.Native.Nat.{ℕ}
 use mathlib.Core.Bool.{false}
 use mathlib.Core.List.{List, [], _∷_}
@@ -81,3 +82,7 @@ unfoldable pub after : Parcel → List ℕ → List ℕ
 after (gives none) out = out
 after (gives (some p)) out = over p out
 after (refuses number at) out = out
+
+-- the answer tells what comes of it, and the buffer, which held `out`, is as that leaves it
+abbrev pub Tells : Parcel → List ℕ → Sending → List ℕ → Type 0
+Tells w out r now = (sendingSaid r ≡ told w) × (now ≡ after w out)

@@ -21,7 +21,7 @@ ghost use Rattle.packet.specs.Kind.{numbersOf};
 ghost use Rattle.writing.specs.Writing.{fits, writingSaid};
 ghost use Rattle.reception.specs.Answer.{messageOf};
 ghost use Rattle.controller.specs.Sending.{sendingSaid};
-ghost use Rattle.controller.specs.Inner.{serverHead, responseOut, endResponseOut, endRequestOut, ackOut, outgoingOf, sendingFrom, Sent≡};
+ghost use Rattle.controller.specs.Inner.{serverHead, responseOut, endResponseOut, endRequestOut, ackOut, outgoingOf, sendingFrom, SentFrom};
 
 // The message that an answer sends, if it sends one.
 enum Outgoing {
@@ -131,7 +131,7 @@ fn sending_of(writing: Writing) -> Sending
 // Writes the packet that an answer sends under a sheet's numbers, on the stream of the transmitter whose User ID the row holds.
 pub fn send(numbers: &Numbers, row: &[u8], answer: Answer, out: &mut [u8]) -> Sending
     requires { ⌜ T (fits (numbersOf (sheetFrom (now numbers)))) × (length (now row) ≤ 60) ⌝ }
-    ensures { λ r. ⌜ Sent≡ (sheetFrom (now (numbers .entry))) (now (row .entry)) (messageOf answer) (now (out .entry)) r (now (out .exit)) ⌝ }
+    ensures { λ r. ⌜ SentFrom (sheetFrom (now (numbers .entry))) (now (row .entry)) (messageOf answer) (now (out .entry)) r (now (out .exit)) ⌝ }
 {
     match message_of(numbers[SERVER], row, answer) {
         Outgoing::Message(message) => sending_of(writing::write_by(numbers, message, row, out)),

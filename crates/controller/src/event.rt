@@ -136,7 +136,7 @@ fn offered(senders: Senders, users: &Users, packet: &[u8], message: Message) -> 
     }
 }
 
-// The event that a packet makes under a sheet's numbers, or 1 to 5, 8, 6 or 7. Whether a sheet has them is not asked.
+// The event that a packet makes under a sheet, or 1 to 5, 8, 6 or 7. Whether the sheet is valid is not asked.
 pub fn event_in(sheet: Sheet, users: &Users, packet: &[u8]) -> Offered
     ensures { λ r. ⌜ offeredSaid r ≡ eventFrom (sendersOf sheet) (now (users .entry)) (now (packet .entry)) (readBy (numbersOf sheet) (now (packet .entry))) ⌝ }
 {

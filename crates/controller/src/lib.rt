@@ -34,7 +34,7 @@ fn refusal(number: u32) -> Refusal
     Refusal { number, at: 0 }
 }
 
-// The event that a packet makes, the User IDs lent: or 12 line 0, 1 to 5, 8, 6 or 7, checked in that order.
+// The event that a packet makes, or 12 line 0, 1 to 5, 8, 6 or 7, checked in that order. The User IDs are lent.
 pub fn event_lent(sheet: Sheet, users: &Users, packet: &[u8]) -> Offered
     ensures { λ r. ⌜ event-of≡ sheet (now (users .entry)) (now (packet .entry)) r ⌝ }
 {
@@ -44,7 +44,7 @@ pub fn event_lent(sheet: Sheet, users: &Users, packet: &[u8]) -> Offered
     event::event_in(sheet, users, packet)
 }
 
-// The event that a packet makes, or 12 line 0, 1 to 5, 8, 6 or 7, checked in that order.
+// The same, the User IDs by value.
 pub fn event_of(sheet: Sheet, users: Users, packet: &[u8]) -> Offered
     ensures { λ r. ⌜ event-of≡ sheet users (now (packet .entry)) r ⌝ }
 {
@@ -52,7 +52,7 @@ pub fn event_of(sheet: Sheet, users: Users, packet: &[u8]) -> Offered
 }
 
 // Writes the packet that an answer on a stream sends into the front of `out`, a sheet's numbers and the User IDs lent: how many octets, that
-// it sends none, or 12 line 0, 9 or 11, checked in that order. 256 octets of stack suffice.
+// it sends none, or 12 line 0, 9 or 11, checked in that order. 256 octets of stack suffice (bench/stack).
 pub fn packet_lent(
     numbers: &Numbers,
     users: &Users,
@@ -71,8 +71,7 @@ pub fn packet_lent(
     answer::send(numbers, &users[stream as usize][..], answer, out)
 }
 
-// Writes the packet that an answer on a stream sends into the front of `out`: how many octets, that it sends none, or 12 line 0, 9 or
-// 11, checked in that order.
+// The same, sheet and User IDs by value.
 pub fn packet_of(sheet: Sheet, users: Users, stream: u8, answer: Answer, out: &mut [u8]) -> Sending
     ensures { λ r. ⌜ packet-of≡ sheet users stream answer (now (out .entry)) r (now (out .exit)) ⌝ }
 {

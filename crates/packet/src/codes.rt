@@ -15,6 +15,9 @@ pub const MCV1: u32 = 0x4D435631;
 // The letters "MCV2".
 pub const MCV2: u32 = 0x4D435632;
 
+// "An ID of 192 or more is refused (house)".
+pub const ID_END: u8 = 192;
+
 // "User ID (6)"; the Source ID of a receive media request has the same.
 pub const USER_ID: u32 = 6;
 

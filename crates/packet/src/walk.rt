@@ -1,12 +1,10 @@
 // The walk over a packet's fields (document 01, "Packet"): ID octet, length octet, value, zeros to the next word.
+use super::codes::ID_END;
 ghost use mathlib.Core.Path.{_≡_};
 ghost use Prim.Native.Nat.{_+_, _%_, _<_, _≤_};
 ghost use lib.ListN.{length};
 ghost use Rattle.octets.specs.Big.{bigAt};
 ghost use Rattle.packet.specs.Walk.{nextAt, stopFrom};
-
-// An ID of this or more is refused.
-const ID_END: u8 = 192;
 
 // How many octets the field at a place takes, with its padding.
 pub fn size_at(packet: &[u8], at: usize) -> usize

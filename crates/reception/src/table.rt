@@ -126,7 +126,7 @@ fn end_response(own: Record, ack: bool) -> Change
     match phase {
         Phase::Free => with_answer(own, Answer::Discarded),
         Phase::Idle => with_answer(own, Answer::Discarded),
-        Phase::Watched => with_answer(own, Answer::Discarded), // no Ack, asked for or not
+        Phase::Watched => with_answer(own, Answer::Discarded),
         Phase::Ending => with_answer(stream::free(), freed(ack)),
     }
 }

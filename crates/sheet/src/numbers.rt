@@ -11,7 +11,7 @@ ghost use Rattle.sheet.specs.Promises.{numbers-of≡, are-valid≡, are-
 
 pub type Numbers = [u32; LINES];
 
-// The lines of the server's SSRC, of the messages' numbers, of the Result's ID and of the seats, counted from 0.
+// The lines of the server's SSRC, of the messages' numbers and of the Result's ID, counted from 0.
 pub const SERVER: usize = 0;
 
 pub const REQUEST: usize = 2;
@@ -30,7 +30,8 @@ pub const ACK: usize = TX_END_RESPONSE + 1;
 
 pub const RESULT_ID: usize = ACK + 1;
 
-pub const SEATS_LINE: usize = RESULT_ID + 1;
+// The last of the lines with a number alone, which says how many seats follow.
+pub const SEATS_LINE: usize = NUMBER_LINES - 1;
 
 // Whether some sheet reads to the struct with these numbers.
 pub fn are_valid(numbers: &Numbers) -> bool

@@ -41,7 +41,7 @@ pub fn is_new_name(users: &Users, seats: u32, name: &[u8]) -> bool
 }
 
 // Whether row s is as it has to be under so many seats: a new name and zeros, or zeros alone.
-pub fn is_good_row(users: &Users, s: usize, seats: u32) -> bool
+fn is_good_row(users: &Users, s: usize, seats: u32) -> bool
     requires { ⌜ s < 8 ⌝ }
     ensures { λ r. ⌜ r ≡ goodRow seats (now (users .entry)) s ⌝ }
 {
@@ -56,7 +56,7 @@ pub fn is_good_row(users: &Users, s: usize, seats: u32) -> bool
     is_new_name(users, s as u32, &row[..n])
 }
 
-// Whether every row is.
+// Whether every row is as it has to be under so many seats.
 pub fn are_good_rows(users: &Users, seats: u32) -> bool
     ensures { λ r. ⌜ (length (now (users .entry)) ≡ 8) × (T r ↔ ((i : ℕ) → i < 8 → T (goodRow seats (now (users .entry)) i))) ⌝ }
 {

@@ -39,10 +39,10 @@ const ASKING: u8 = PLAIN + 16;
 // A message's number goes into four bits.
 const NUMBER_END: u32 = 16;
 
-// "An ID of 192 or more is refused".
-const ID_END: u32 = 192;
+// No ID is as great.
+const ID_END: u32 = packet::codes::ID_END as u32;
 
-// Whether the messages' numbers and the Result's ID go into their places in a packet.
+// Whether the messages' numbers and the Result's ID go into their places in a packet. The messages' lines stand together, the Result's ID behind them.
 pub fn fit(numbers: &Numbers) -> bool
     ensures { λ r. ⌜ r ≡ fits (numbersOf (sheetFrom (now (numbers .entry)))) ⌝ }
 {

@@ -4,12 +4,15 @@
 //!     second compare SEED ROUNDS < ANSWERS
 //!     second reception make SEED ROUNDS > CASES
 //!     second reception compare SEED ROUNDS < ANSWERS
+//!     second controller make SEED ROUNDS > CASES
+//!     second controller compare SEED ROUNDS < ANSWERS
 //!     second sample cases > crates/answers/stdin
 //!     second sample answers > crates/answers/stdout
 
 mod asked;
 mod bench;
 mod compare;
+mod controller;
 mod damage;
 mod drafts;
 mod good;
@@ -19,6 +22,7 @@ mod packets;
 mod places;
 mod random;
 mod reception;
+mod rooms;
 mod sample;
 mod sheet;
 mod shown;
@@ -35,8 +39,8 @@ use std::io::{self, BufWriter, Write};
 use std::process::ExitCode;
 use wire::Case;
 
-const USAGE: &str =
-    "second [reception] make SEED ROUNDS | [reception] compare SEED ROUNDS | sample cases | sample answers";
+const USAGE: &str = "second [reception|controller] make SEED ROUNDS | [reception|controller] compare SEED ROUNDS | \
+    sample cases | sample answers";
 
 /// Every case about sheets and packets that is thought of, then so many rounds of cases by chance.
 fn cases(seed: u64, rounds: usize) -> Vec<Case> {
@@ -80,6 +84,7 @@ fn run_on<C: Asked>(words: &[&str], cases: fn(u64, usize) -> Vec<C>) -> Option<i
 fn run(words: &[&str]) -> Option<io::Result<bool>> {
     match words {
         ["reception", words @ ..] => run_on(words, reception::cases),
+        ["controller", words @ ..] => run_on(words, controller::cases),
         ["sample", "cases"] => Some(print_cases(sample::octets().into_iter())),
         ["sample", "answers"] => Some(io::stdout().write_all(&sample::answer_octets()).map(|()| true)),
         _ => run_on(words, cases),

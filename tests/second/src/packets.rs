@@ -86,7 +86,7 @@ fn with_other_heads(draft: &Draft) -> Vec<Draft> {
 }
 
 /// A draft with its fields in some order, and with some that are skipped.
-fn mixed(random: &mut Random, sheet: &Sheet, kind: u32) -> Draft {
+pub fn mixed(random: &mut Random, sheet: &Sheet, kind: u32) -> Draft {
     let drafts = drafts::of_kind(random, sheet, kind);
     let mut draft = random.pick(&drafts).clone();
     if random.once_in(2) {
@@ -100,7 +100,7 @@ fn mixed(random: &mut Random, sheet: &Sheet, kind: u32) -> Draft {
 }
 
 /// A packet by chance: good, or with a few faults anywhere. The sheet's numbers are good.
-fn any(random: &mut Random, sheet: &Sheet) -> Octets {
+pub fn any(random: &mut Random, sheet: &Sheet) -> Octets {
     let kind = random.within(1, MESSAGES.len() as u32);
     let draft = mixed(random, sheet, kind);
     let (one, set) = (1 << random.below(5), random.below(32) as u32);

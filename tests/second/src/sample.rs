@@ -2,6 +2,7 @@
 
 use crate::asked::{self, Asked};
 use crate::bench::{self, s_with, S};
+use crate::controller::sample as controller;
 use crate::packet::Message;
 use crate::reception::sample as reception;
 use crate::sheet::Sheet;
@@ -9,7 +10,7 @@ use crate::wire::Case;
 
 /// Packets under S that are refused with 1, 2, 3, 4 and 5: one octet short, type 205, the number of no message, an ID
 /// of 192, and no Result.
-const REFUSED: [&str; 5] = [
+pub const REFUSED: [&str; 5] = [
     "82CC0003000003E84D435631140200",
     "82CD0003000003E84D43563114020001",
     "88CC0003000003E84D43563114020001",
@@ -65,15 +66,24 @@ pub fn cases() -> Vec<Case> {
     cases
 }
 
-/// Every question, each case by its octets: those above, and those of reception behind them.
+/// Cases by their octets.
+fn each<C: Asked>(cases: Vec<C>) -> Vec<Vec<u8>> {
+    cases.iter().map(Asked::octets).collect()
+}
+
+/// Every question, each case by its octets: those above, and behind them those of reception and of the controller.
 pub fn octets() -> Vec<Vec<u8>> {
-    let reception = reception::cases();
-    cases().iter().map(Asked::octets).chain(reception.iter().map(Asked::octets)).collect()
+    [each(cases()), each(reception::cases()), each(controller::cases())].concat()
 }
 
 /// The answers to all of them.
 pub fn answer_octets() -> Vec<u8> {
-    [asked::answer_octets(&cases()), asked::answer_octets(&reception::cases())].concat()
+    [
+        asked::answer_octets(&cases()),
+        asked::answer_octets(&reception::cases()),
+        asked::answer_octets(&controller::cases()),
+    ]
+    .concat()
 }
 
 #[cfg(test)]

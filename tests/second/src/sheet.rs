@@ -11,7 +11,7 @@ pub const WIDTH: usize = 60;
 pub type Row = [u8; WIDTH];
 
 /// A sheet's value: the numbers in the order of `KEYS`, and a SSRC and a User ID for each of eight seats.
-#[derive(Clone, PartialEq, Eq, Debug)]
+#[derive(Clone, PartialEq, Eq, Hash, Debug)]
 pub struct Sheet {
     pub numbers: [u32; KEYS.len()],
     pub ssrcs: [u32; SEATS],
@@ -78,6 +78,11 @@ impl Sheet {
             named.users[s][0] = b'a' + s as u8;
         }
         named.is_valid()
+    }
+
+    /// The User IDs of the seats.
+    pub fn user_ids(&self) -> impl Iterator<Item = &[u8]> {
+        self.users[..self.rows()].iter().map(name_in)
     }
 
     pub fn seat_by_ssrc(&self, ssrc: u32) -> Option<usize> {

@@ -23,7 +23,7 @@ fn shown_row(row: &Row) -> String {
     sheet::name_in(row).escape_ascii().to_string()
 }
 
-fn shown_sheet(sheet: &Sheet) -> String {
+pub fn shown_sheet(sheet: &Sheet) -> String {
     let users: Vec<String> = sheet.users.iter().map(shown_row).collect();
     format!("numbers {:?} ssrcs {:?} users {users:?}", sheet.numbers, sheet.ssrcs)
 }
@@ -48,7 +48,7 @@ pub fn case(case: &Case) -> String {
     }
 }
 
-fn hex(octets: &[u8]) -> String {
+pub fn hex(octets: &[u8]) -> String {
     octets.iter().map(|octet| format!("{octet:02X}")).collect()
 }
 

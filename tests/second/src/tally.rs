@@ -2,8 +2,8 @@
 
 use crate::asked::{self, is_enough, Wanted};
 use crate::drafts::Octets;
-use crate::messages::PAST;
 use crate::packet::{kinds, Message, Reading, Step, INDICATED};
+use crate::rooms::Rooms;
 use crate::sheet::{KEYS, SEATS};
 use crate::wire::{Answer, Case};
 use crate::writer::{self, Writing};
@@ -32,8 +32,8 @@ pub struct Tally {
     read_under: Sheets,
     /// under which good sheets messages were written
     written_under: Sheets,
-    /// how long the buffers were for each packet of a shape, up to a little past it
-    rooms: BTreeMap<(String, Octets), BTreeSet<usize>>,
+    /// how long the buffers were for the packets of each shape
+    rooms: Rooms,
 }
 
 /// What a case, or each part of it, turned out to be.
@@ -150,22 +150,16 @@ impl Tally {
             }
             (Case::Write(sheet, message, names, room), Answer::Write(writing, ..)) if *writing != Err(12) => {
                 self.written_under.insert((sheet.numbers, sheet.ssrcs));
-                self.note_room(shape(message), writer::packet_of(sheet, message, names), *room);
+                self.note_room(&shape(message), writer::packet_of(sheet, message, names), *room);
             }
             _ => (),
         }
     }
 
     /// Notes how long a packet's buffer was, and counts the packet once there was every length.
-    fn note_room(&mut self, shape: String, packet: Option<Octets>, room: usize) {
-        let Some(packet) = packet else {
-            return;
-        };
-        let most = packet.len() + PAST;
-        let every = every_buffer(&shape);
-        let rooms = self.rooms.entry((shape, packet)).or_default();
-        if room <= most && rooms.insert(room) && rooms.len() == most + 1 {
-            self.count(every);
+    fn note_room(&mut self, shape: &str, packet: Option<Octets>, room: usize) {
+        if packet.is_some_and(|packet| self.rooms.is_last(shape, &packet, room)) {
+            self.count(every_buffer(shape));
         }
     }
 

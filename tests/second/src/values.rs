@@ -62,14 +62,18 @@ fn with_other_users(sheet: &Sheet) -> Vec<Sheet> {
     values
 }
 
+/// Values with one change anywhere.
+pub fn with_one_change(sheet: &Sheet) -> Vec<Sheet> {
+    [with_other_numbers_or_ssrcs(sheet), with_other_users(sheet)].concat()
+}
+
 /// A value and every way in which it is spoilt, or nearly so.
 pub fn systematic(random: &mut Random) -> Vec<Sheet> {
     let ones = Sheet { numbers: [u32::MAX; KEYS.len()], ssrcs: [u32::MAX; SEATS], users: [[0xFF; WIDTH]; SEATS] };
     let mut values = vec![Sheet::ZERO, ones, good::longest()];
     for seats in 1..=SEATS {
         let sheet = good::sheet(random, seats);
-        values.extend(with_other_numbers_or_ssrcs(&sheet));
-        values.extend(with_other_users(&sheet));
+        values.extend(with_one_change(&sheet));
         values.push(sheet);
     }
     values
@@ -96,7 +100,7 @@ pub fn any(random: &mut Random) -> Sheet {
 }
 
 /// Names that are, or are easily taken for, those of a sheet.
-fn names_to_find(random: &mut Random, sheet: &Sheet) -> Vec<Vec<u8>> {
+pub fn names_to_find(random: &mut Random, sheet: &Sheet) -> Vec<Vec<u8>> {
     let mut names = vec![vec![], vec![0], vec![0; WIDTH], vec![b' '], good::name(random)];
     for row in &sheet.users {
         let name = sheet::name_in(row).to_vec();
@@ -117,10 +121,16 @@ fn names_to_find(random: &mut Random, sheet: &Sheet) -> Vec<Vec<u8>> {
     names
 }
 
-/// Every search in a sheet, by the SSRCs and the User IDs of all rows and by others.
-fn searches(random: &mut Random, sheet: &Sheet) -> Vec<Case> {
+/// SSRCs that are, or are easily taken for, those of a sheet.
+pub fn ssrcs_to_find(random: &mut Random, sheet: &Sheet) -> Vec<u32> {
     let mut ssrcs = vec![0, 1, u32::MAX, random.word()];
     ssrcs.extend(sheet.ssrcs.iter().flat_map(|n| [*n, n.wrapping_add(1), n.swap_bytes(), n & 0xFFFF]));
+    ssrcs
+}
+
+/// Every search in a sheet, by the SSRCs and the User IDs of all rows and by others.
+fn searches(random: &mut Random, sheet: &Sheet) -> Vec<Case> {
+    let ssrcs = ssrcs_to_find(random, sheet);
     let mut cases: Vec<Case> = ssrcs.into_iter().map(|ssrc| Case::BySsrc(sheet.clone(), ssrc)).collect();
     cases.extend(names_to_find(random, sheet).into_iter().map(|name| Case::ByUser(sheet.clone(), name)));
     cases

@@ -198,13 +198,13 @@ pub fn with_length(body: Vec<u8>) -> Vec<u8> {
 }
 
 /// Octets behind their count, of two octets.
-fn counted(octets: &[u8]) -> Vec<u8> {
+pub fn counted(octets: &[u8]) -> Vec<u8> {
     let count = u16::try_from(octets.len()).expect("a count of two octets");
     [&count.to_be_bytes(), octets].concat()
 }
 
 /// Numbers of four octets.
-fn octets_of(numbers: impl IntoIterator<Item = u32>) -> Vec<u8> {
+pub fn octets_of(numbers: impl IntoIterator<Item = u32>) -> Vec<u8> {
     numbers.into_iter().flat_map(u32::to_be_bytes).collect()
 }
 
@@ -212,7 +212,7 @@ pub fn numbers_octets(sheet: &Sheet) -> Vec<u8> {
     octets_of(sheet.numbers.into_iter().chain(sheet.ssrcs))
 }
 
-fn sheet_octets(sheet: &Sheet) -> Vec<u8> {
+pub fn sheet_octets(sheet: &Sheet) -> Vec<u8> {
     [numbers_octets(sheet), sheet.users.concat()].concat()
 }
 

@@ -41,7 +41,7 @@ unfolding bench sheetWith usersS lib.Count.ones
     reception.Record.watches reception.Record.setBit reception.Record.clearBit reception.Record.count reception.Record.sameRecord
     reception.Record.goodReceivers reception.Record.legalIn reception.Record.legal reception.Table.joined reception.Table.onRequest
     reception.Table.afterClearing reception.Table.onEnd reception.Table.onT11 reception.Table.ruleFor reception.Steps.seenOf reception.Steps.readOf
-    reception.Steps.attemptOf reception.Steps.workOf reception.Steps.replyOf reception.Steps.stored reception.Steps.storeOf reception.Schedule.after
+    reception.Steps.attemptOf reception.Steps.workOf reception.Steps.replyOf reception.Steps.stored reception.Steps.storeOf reception.Schedule.noted reception.Schedule.after
     reception.Schedule.ifTook reception.Schedule.takenAt reception.Schedule.run reception.Schedule.taken
     controller.Event.onStream controller.Event.requestBy controller.Event.heard controller.Event.eventFrom controller.Event.eventOf
     controller.Sending.valuesOut controller.Sending.messageOut controller.Sending.parcelOf controller.Sending.sendingOf
@@ -64,7 +64,7 @@ bench-holds =
     -- P13: each attempt that is stored was worked out; each step comes out so; the record at the end; the events that took
     and (
       (tt, (tt, (tt, (tt, ((idle, refl), ((idle, refl), (tt, (tt, ((ending, refl), tt))))))))),
-      (refl, (refl, (refl, (refl, (refl, (refl, (refl, (refl, (refl, tt))))))))),
+      (refl, ((refl, refl), (refl, ((refl, refl), (refl, (refl, (refl, ((refl, refl), (refl, tt))))))))),
       refl,
       refl,
     )

@@ -30,7 +30,7 @@ use Rattle.controller.specs.declared.answer.Outgoing.{Outgoing}
 use Rattle.controller.specs.declared.answer.Outgoing.the-variants.{Message as Outgoes, Nothing}
 use Rattle.controller.specs.Event.{userOf}
 use Rattle.controller.specs.Sending.{valuesOut, messageOut, Parcel, parcel, parcelOf, sendingOf, told, sendingSaid, after}
-use Rattle.controller.specs.Inner.{outgoingOf, sendingFrom, Sent≡}
+use Rattle.controller.specs.Inner.{outgoingOf, sendingFrom, SentFrom}
 
 -- the name at the front of a row is the row's User ID
 name-said : (row : List ℕ) → valueIn row (named 0 (length (nameOf row))) ≡ spelt (nameOf row)
@@ -76,7 +76,7 @@ module _ (s : Sheet) (row : List ℕ) (a : Answer) (out : List ℕ) where
   -- a message goes out: what the writer answers is what the answer sends
   pub sends-message : T (fits (numbersOf s)) → (m : Message) (w : Writing) (r : Sending) (now : List ℕ)
       → outgoingOf (s .server) (length (nameOf row)) a ≡ Outgoes m → Answered (writeBy s (messageSaid m) row (length out)) out w now
-      → sendingSaid r ≡ sendingFrom (writingSaid w) → Sent≡ s row (messageOf a) out r now
+      → sendingSaid r ≡ sendingFrom (writingSaid w) → SentFrom s row (messageOf a) out r now
   unfolding writeBy
   sends-message t m w r now e put said =
       let made = writeBy s (messageSaid m) row (length out) in

@@ -24,9 +24,10 @@ use Rattle.packet.specs.Message.{nameSaid, messageSaid}
 use Rattle.packet.specs.Reading.{Outcome, reads, refused, readBy, readOf}
 use Rattle.packet.proofs.Laws.NamesInside.{names-right-by}
 use Rattle.writing.specs.Meaning.{valueIn}
+use Rattle.writing.specs.Packet.{nameHeld}
 use Rattle.reception.specs.declared.What.the-variants.{End}
 use Rattle.reception.specs.Steps.{refuses}
-use Rattle.controller.specs.Event.{speltAs, onStream, requestBy, bySender, heard, eventFrom, eventOf, sendersOf}
+use Rattle.controller.specs.Event.{onStream, requestBy, bySender, heard, eventFrom, eventOf, sendersOf}
 use Rattle.controller.specs.Inner.{octetsAt, NamesRight}
 
 -- ---- the names of a message
@@ -39,7 +40,7 @@ module _ (p : List ℕ) (n : Name) (right : T (nameRight p (nameSaid n))) where
       leb→le (n .at + n .len) (length p) (T-and-left (leb (n .at + n .len) (length p)) (userId (take (n .len) (drop (n .at) p))) right)
 
   -- so that its octets are what it says
-  pub name-spelt : speltAs (valueIn p (nameSaid n)) ≡ octetsAt p n
+  pub name-spelt : nameHeld (valueIn p (nameSaid n)) ≡ octetsAt p n
   unfolding valueIn
   name-spelt = rw (le-leb (n .at + n .len) (length p) name-ends)
 

@@ -29,7 +29,7 @@ use Rattle.reception.specs.Steps.{gives}
 use Rattle.reception.proofs.Laws.Steps.{check-gives}
 use Rattle.controller.specs.Event.{userOf}
 use Rattle.controller.specs.Sending.{valuesOut, messageOut, parcel, parcelOf, sendingOf}
-use Rattle.controller.specs.Claims.{named01, narrow, SendsNamed, SendsExactly, SendingRefused}
+use Rattle.controller.specs.Claims.{messageFor, narrow, SendsNamed, SendsExactly, SendingRefused}
 use Rattle.controller.proofs.Laws.Answers.{sending-invalid, sending-off, sending-on}
 use Rattle.controller.proofs.Laws.Seats.{valid-alone, user-right}
 
@@ -37,7 +37,7 @@ use Rattle.controller.proofs.Laws.Seats.{valid-alone, user-right}
 
 -- the one that document 01 names
 named-out : (s : Sheet) (transmitter : List ℕ) (a : Answer)
-    → Option·map (messageOut (s .server) transmitter) (messageOf a) ≡ named01 s transmitter a
+    → Option·map (messageOut (s .server) transmitter) (messageOf a) ≡ messageFor s transmitter a
 unfolding messageOut valuesOut
 named-out s transmitter GrantedFirst = refl
 named-out s transmitter Granted = refl

@@ -1,5 +1,4 @@
--- `answers::value::row_in` is safe and ends: the index stays within the row.
--- Assumes nothing.
+-- `answers::value::row_in` is safe and ends. Assumes nothing.
 use Prim.Native.Nat.{_≤_, _-_}
 use mathlib.Core.Path.{_≡_}
 use lib.ListN.{length}

@@ -1,5 +1,4 @@
--- `controller::answer::end_response` meets its contract.
--- Assumes nothing.
+-- `controller::answer::end_response` meets its contract: the row's User ID has at most 60 octets. Assumes nothing.
 use borrow.Author.Needs.{needs}
 use native.Mathlib.Omega.{arith}
 use Rattle.sheet.proofs.Laws.Rows.{length-nameOf-le}

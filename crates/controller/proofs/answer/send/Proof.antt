@@ -1,5 +1,4 @@
--- `controller::answer::send` meets its contract.
--- Assumes nothing.
+-- `controller::answer::send` meets its contract: what is said and put is the writer's, or nothing. Assumes nothing.
 use borrow.Author.Needs.{needs}
 use mathlib.Core.Path.{refl, sym, _∙_}
 use denote.Ref.{now}

@@ -1,5 +1,4 @@
--- `controller::answer::sending_of` meets its contract.
--- Assumes nothing.
+-- `controller::answer::sending_of` meets its contract: case by case. Assumes nothing.
 use borrow.Author.Needs.{needs}
 use Rattle.controller.proofs.answer.sending_of.Statement.{statement}
 use Rattle.controller.proofs.answer.sending_of.Tie as tie

@@ -1,0 +1,120 @@
+// Questions 13 and 14, about the controller: the event that a packet makes, and the packet that an answer sends.
+use super::buffer;
+use super::buffer::ROOM;
+use super::number::octet_at;
+use super::number::part;
+use super::question::counted;
+use super::reply::Reply;
+use super::value;
+use controller::Offered;
+use controller::Sending;
+use reception::Answer;
+use reception::Event;
+use reception::What;
+use sheet::Sheet;
+ghost use Prim.Native.Nat.{_≤_};
+
+// How many octets an event takes.
+pub const EVENT: usize = 12;
+
+fn end_response(ack: bool) -> u32
+    ensures { λ r. ⌜ r ≤ 0x6010000 ⌝ }
+{
+    if ack { 0x5000001 } else { 0x5000000 }
+}
+
+// What happens, as four octets: what, 0, by, Ack asked.
+fn what_word(what: What) -> u32
+    ensures { λ r. ⌜ r ≤ 0x6010000 ⌝ }
+{
+    match what {
+        What::Request(by) => 0x1000000 + (by as u32) * 256,
+        What::End(by) => 0x2000000 + (by as u32) * 256,
+        What::Open => 0x3000000,
+        What::T11 => 0x4000000,
+        What::EndResponse(ack) => end_response(ack),
+        What::Release => 0x6000000,
+    }
+}
+
+// An event, as four octets: what, stream, by, Ack asked.
+fn event_word(event: Event) -> u32 {
+    let what = event.what;
+    let word = what_word(what);
+    word + (event.stream as u32) * 65536
+}
+
+// The refusal's number and place, and the event, zeros where there is none.
+fn offered_row(offered: Offered) -> [u32; 3] {
+    match offered {
+        Offered::Event(event) => [0, 0, event_word(event)],
+        Offered::Refused(refusal) => [refusal.number, refusal.at, 0],
+    }
+}
+
+// 13: the event that each packet makes under a value: the refusal's number and place, and the event, four octets each. The packets stand behind
+// the value, each behind its count, two octets.
+pub fn event(reply: Reply, sheet: Sheet, body: &[u8], rest: &[u8]) -> Reply {
+    let users = value::users_in(body);
+    let offered = controller::event_of(sheet, users, part(rest, 2, counted(rest)));
+    reply.numbers(&offered_row(offered))
+}
+
+// An answer by its number, in the order of reception's.
+fn answer_numbered(number: u8, cause: u16) -> Answer {
+    match number {
+        1 => Answer::GrantedFirst,
+        2 => Answer::Granted,
+        3 => Answer::GrantedAgain,
+        4 => Answer::Rejected(cause),
+        5 => Answer::Ended,
+        6 => Answer::EndedLast,
+        7 => Answer::Opened,
+        8 => Answer::EndRequested(cause),
+        9 => Answer::Freed,
+        10 => Answer::FreedWithAck,
+        11 => Answer::ReleasedIdle,
+        12 => Answer::ReleasedWatched,
+        13 => Answer::ReleasedEnding,
+        _ => Answer::Discarded,
+    }
+}
+
+// What was said (0 refused, 1 written, 2 nothing to send), how many octets were written, the refusal's number and place.
+fn sending_row(sending: Sending) -> [u32; 4] {
+    match sending {
+        Sending::Written(octets) => [1, (octets % 4294967296) as u32, 0, 0],
+        Sending::Nothing => [2, 0, 0, 0],
+        Sending::Refused(refusal) => [0, 0, refusal.number, refusal.at],
+    }
+}
+
+fn put_sending(sending: Sending, buffer: &[u8; ROOM], room: usize) -> Reply {
+    Reply::empty()
+        .numbers(&sending_row(sending))
+        .octets(part(buffer, 0, room))
+}
+
+// What is said of a body's answer on its stream, into a buffer of so many octets, and the buffer.
+fn sent(body: &[u8], room: usize) -> Reply
+    requires { ⌜ room ≤ 1004 ⌝ }
+{
+    let stream = octet_at(body, value::LENGTH);
+    let number = octet_at(body, value::LENGTH + 1);
+    let answer = answer_numbered(number, octets::u16_at(body, value::LENGTH + 2));
+    let sheet = value::sheet_in(body);
+    let users = value::users_in(body);
+    let mut buffer = buffer::filled();
+    let sending = controller::packet_of(sheet, users, stream, answer, &mut buffer[0..room]);
+    put_sending(sending, &buffer, room)
+}
+
+// 14: the packet that an answer sends under a value, into a buffer that was filled. Behind the value stand the stream and the answer's number
+// (an octet each), its cause, and the length of the buffer (two octets each). The answer: what was said, four octets each, and the buffer.
+pub fn packet(body: &[u8]) -> Reply {
+    let room = octets::u16_at(body, value::LENGTH + 4) as usize;
+    if ROOM < room {
+        return Reply::empty();
+    }
+    sent(body, room)
+}
