@@ -3,6 +3,7 @@
 // Standard input: how many cases there are; then for each an octet for what is asked, a length and that many octets.
 // Standard output: for each case a length and that many octets, the answer. Counts and lengths are four octets, big-endian.
 // What may be asked, 1 to 14, and what then stands in a case and in its answer: question.rt, from 9 on schedule.rt, from 13 on control.rt.
+// Questions that have several items are taken apart in items.rt.
 mod buffer;
 mod control;
 mod items;
