@@ -90,12 +90,12 @@ Unseated s users m =
 abbrev pub SevenExactly : Type 0
 SevenExactly = RefusedExactly 7 Unseated
 
--- 12 comes first; and 1 to 5 are reading's own, passed on with their number
+-- 12 comes first; and 1 to 5 are given exactly where the reader gives them
 abbrev pub ReadingRefused : Type 0
 ReadingRefused =
     (s : Sheet) (users : List (List ℕ)) (p : List ℕ)
     → (validWith s users ≡ false → eventOf s users p ≡ refuses 12 0)
-    × (T (validWith s users) → (number at : ℕ) → readOf s p ≡ refused number at → eventOf s users p ≡ refuses number at)
+    × (T (validWith s users) → (number at : ℕ) → number ≤ 5 → (eventOf s users p ≡ refuses number at) ↔ (readOf s p ≡ refused number at))
 
 -- ---- which packet an answer sends
 

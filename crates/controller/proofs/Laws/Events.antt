@@ -5,8 +5,9 @@ use mathlib.Core.Logic.{_↔_, inl, inr}
 use mathlib.Core.Bool.{Bool, true, not, _||_}
 use mathlib.Core.List.{List}
 use mathlib.Core.Option.{Option, none, some, Option·none-ne-some, Option·some-injective}
-use Prim.Native.Nat.{ℕ}
-use lib.Dec.{T, T-not, leb, eqb, eqb→eq}
+use Prim.Native.Nat.{ℕ, _≤_}
+use native.Mathlib.Omega.{arith}
+use lib.Dec.{T, T-not, leb, leb→le, eqb, eqb→eq}
 use borrow.Author.Tests.{ne-eqb, eqb-false}
 use Rattle.octets.specs.Choice.{pick, same}
 use Rattle.octets.proofs.Choice.{T-true, T-false, false-T, pick-cases, same-eq, eq-same}
@@ -64,6 +65,11 @@ reading-early s p =
 abbrev isHeard : Said Event → Bool
 isHeard (gives e) = true
 isHeard (refuses number at) = not (early number)
+
+-- one that is none of 1 to 5
+abbrev isLate : Said Event → Bool
+isLate (gives e) = true
+isLate (refuses number at) = leb 6 number
 
 -- ---- a seat that was looked for
 
@@ -155,6 +161,21 @@ module _ (s : Sheet) (users : List (List ℕ)) (v : T (validWith s users)) where
         (λ six r h. (six, h, refl))
         (λ other. other)
 
+    -- no message is answered with 1 to 5
+    heard-late : T (isLate (answered m))
+    unfolding requestBy onStream
+    heard-late =
+        let Late : Said Event → Type 0 = λ w. T (isLate w) in
+        by-kind Late
+        (λ kinds nobody. tt)
+        (λ one r h.
+        pick-cases Late (same (userOf users r) first) _ _
+        (λ t. by-seat Late 7 _ _ (user-found s users v second) (λ none. tt) (λ stream k. tt))
+        (λ f. tt))
+        (λ three r h. by-seat Late 7 _ _ (user-found s users v first) (λ none. tt) (λ stream k. tt))
+        (λ six r h. tt)
+        (λ other. tt)
+
     -- ---- what holds of the message says what is answered
 
     -- a request by a seat, its own User ID in it, goes to the stream of the second name
@@ -232,4 +253,14 @@ seven-exactly s users p v = told-exactly s users v p (refuses 7 0) tt (seven-hea
 -- which with 12 or 1 to 5
 pub reading-refused : ReadingRefused
 unfolding eventOf eventFrom
-reading-refused s users p = (event-invalid s users p, λ v number at e. rw (T-true (validWith s users) v, e))
+reading-refused s users p = (event-invalid s users p, λ v number at few. rw (T-true (validWith s users) v) (by v number at few (readOf s p)))
+  where
+    by : T (validWith s users) → (number at : ℕ) → number ≤ 5 → (o : Outcome)
+        → (eventFrom (sendersOf s) users p o ≡ refuses number at) ↔ (o ≡ refused number at)
+    by v number at few (reads kind ssrc ack held) = (
+      (λ e.
+          let late : T (isLate (refuses number at)) = subst (λ (w : Said Event). T (isLate w)) e (heard-late s users v _) in
+          absurd (omega (arith, leb→le 6 number late))),
+      λ e. let z : _≡_ {A = ℕ} 0 1 = cc in absurd (omega arith),
+    )
+    by v number at few (refused n a) = (λ e. cc, λ e. cc)
