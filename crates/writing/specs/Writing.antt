@@ -35,16 +35,20 @@ packetFor s (some m) = packetOf (numbersOf s) m
 
 -- A message with the octets its names lie in, and the buffer's length. The message is set out as reading sets it out, so that what was
 -- read can be written again; a refusal has no meaning, and is no message.
+abbrev pub madeOf : Sheet → Outcome → List ℕ → ℕ → Made
+madeOf s message names room = roomFor room (packetFor s (meaning names message))
+
+-- "line 0, before all other checks, for a sheet value handed to a call that no sheet reads to"
 unfoldable pub writeOf : Sheet → Outcome → List ℕ → ℕ → Made
-writeOf s message names room = pick (validAlone s) (roomFor room (packetFor s (meaning names message))) (refused 12 0)
+writeOf s message names room = pick (validAlone s) (madeOf s message names room) (refused 12 0)
 
 -- The numbers go into their places in a packet: "the other four are the message's number", "An ID of 192 or more is refused".
 unfoldable pub fits : Numbers → Bool
 fits n = every (λ (k : Kind). ltb (k .number) 16 && every (λ (r : Row). ltb (r .id) 192) (k .rows)) (kinds n)
 
--- The same for numbers of which it was asked elsewhere whether a sheet has them. Those that go into no packet are no sheet's: 12.
+-- The same where the caller has judged the sheet: 12 is left to it, but for numbers that go into no packet.
 unfoldable pub writeBy : Sheet → Outcome → List ℕ → ℕ → Made
-writeBy s message names room = pick (fits (numbersOf s)) (roomFor room (packetFor s (meaning names message))) (refused 12 0)
+writeBy s message names room = pick (fits (numbersOf s)) (madeOf s message names room) (refused 12 0)
 
 -- ---- what is answered, and what the buffer holds
 

@@ -37,6 +37,12 @@ pub fn is_enough(wanted: Vec<Wanted>) -> bool {
     missing.is_empty()
 }
 
+/// The program's answer, where it has as many octets as document 01's; else what is wrong with it.
+pub fn of_length<'a>(got: Option<&'a [u8]>, expected: &[u8]) -> Result<&'a [u8], String> {
+    got.filter(|got| got.len() == expected.len())
+        .ok_or_else(|| format!("  octets in the answer: {:?}, and not {}", got.map(<[u8]>::len), expected.len()))
+}
+
 /// Writes cases as the program reads them: how many there are, and each.
 pub fn write_cases(out: &mut impl Write, mut cases: impl ExactSizeIterator<Item = Vec<u8>>) -> io::Result<()> {
     let count = u32::try_from(cases.len()).expect("a count of four octets");

@@ -11,7 +11,6 @@ use Rattle.sheet.specs.declared.Sheet.{Sheet}
 use Rattle.sheet.specs.declared.Senders.{Senders}
 use Rattle.sheet.specs.Judge.{userId}
 use Rattle.sheet.specs.Value.{validAlone, validWith}
-use Rattle.sheet.proofs.Laws.Claims.{valid-alone-exactly}
 use Rattle.packet.specs.declared.Name.{Name}
 use Rattle.packet.specs.declared.Head.{Head}
 use Rattle.packet.specs.declared.Indicator.{Indicator}
@@ -29,6 +28,7 @@ use Rattle.reception.specs.declared.What.the-variants.{End}
 use Rattle.reception.specs.Steps.{refuses}
 use Rattle.controller.specs.Event.{onStream, requestBy, bySender, heard, eventFrom, eventOf, sendersOf}
 use Rattle.controller.specs.Inner.{octetsAt, NamesRight}
+use Rattle.controller.proofs.Laws.Seats.{valid-alone}
 
 -- ---- the names of a message
 
@@ -55,7 +55,7 @@ module _ (s : Sheet) (users : List (List ℕ)) (p : List ℕ) where
   -- a sheet's value, which is a sheet's struct too: the packet reads by the sheet's numbers
   pub event-valid : validWith s users ≡ true → eventOf s users p ≡ eventFrom (sendersOf s) users p (readBy (numbersOf s) p)
   unfolding eventOf readOf
-  event-valid e = rw (e, T-true (validAlone s) (valid-alone-exactly s .1 (users, true-T (validWith s users) e)))
+  event-valid e = rw (e, T-true (validAlone s) (valid-alone s users (true-T (validWith s users) e)))
 
   -- no sheet's value
   pub event-invalid : validWith s users ≡ false → eventOf s users p ≡ refuses 12 0

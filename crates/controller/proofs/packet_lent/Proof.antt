@@ -12,12 +12,12 @@ use denote.Ref.{now}
 use Rattle.octets.proofs.Choice.{true-T}
 use Rattle.sheet.specs.Table.{mostSeats}
 use Rattle.sheet.specs.Value.{sheetBy, sheetFrom, validAlone, validWith}
-use Rattle.sheet.proofs.Laws.Claims.{valid-alone-exactly}
 use Rattle.sheet.proofs.Laws.Values.{few-seats}
 use Rattle.writing.proofs.Laws.Kinds.{valid-fits}
 use Rattle.reception.specs.Answer.{messageOf}
 use Rattle.controller.specs.Sending.{told, after}
 use Rattle.controller.proofs.Laws.Answers.{sending-invalid, sending-off, sending-on}
+use Rattle.controller.proofs.Laws.Seats.{valid-alone}
 use Rattle.controller.proofs.packet_lent.Statement.{statement}
 use Rattle.controller.proofs.packet_lent.Tie as tie
 
@@ -66,7 +66,7 @@ module _ (c : tie.Else2) where
 
   -- and the sheet is valid by itself
   alone : let a = c .before .before .before .before .before .args in T (validAlone (sheetFrom (now (a .numbers))))
-  alone = valid-alone-exactly _ .1 (_, true-T _ (passed (c .before .before)))
+  alone = valid-alone _ _ (true-T _ (passed (c .before .before)))
 
 index-1-send : tie.Need-index-1-send
 unfolding mostSeats

@@ -3,7 +3,7 @@
 use super::sending::message_of;
 use super::tally::Tally;
 use super::wire::{Case, SENT};
-use crate::asked::Asked;
+use crate::asked::{of_length, Asked};
 use crate::drafts::Octets;
 use crate::packet;
 use crate::shown::{hex, shown_sheet};
@@ -53,8 +53,9 @@ impl Asked for Case {
         let answers = self.answers();
         tally.note(self, &answers);
         let expected = answers.body();
-        let Some(got) = got.filter(|got| got.len() == expected.len()) else {
-            return Some(format!("  octets in the answer: {:?}, and not {}", got.map(<[u8]>::len), expected.len()));
+        let got = match of_length(got, &expected) {
+            Ok(got) => got,
+            Err(wrong) => return Some(wrong),
         };
         let parts = |octets| <[u8]>::chunks(octets, self.part_size());
         let mut both = parts(got).zip(parts(&expected)).enumerate();

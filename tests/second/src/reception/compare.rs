@@ -6,7 +6,7 @@ use super::octets::SCHEDULE;
 use super::serial;
 use super::tally::Tally;
 use super::wire::Case;
-use crate::asked::Asked;
+use crate::asked::{of_length, Asked};
 
 /// P13, where a case has it and its answer is not the one of document 01.
 fn not_p13(case: &Case, got: &[u8]) -> Option<usize> {
@@ -40,8 +40,9 @@ impl Asked for Case {
         let answers = self.answers();
         tally.note(self, &answers);
         let expected = answers.body();
-        let Some(got) = got.filter(|got| got.len() == expected.len()) else {
-            return Some(format!("  octets in the answer: {:?}, and not {}", got.map(<[u8]>::len), expected.len()));
+        let got = match of_length(got, &expected) {
+            Ok(got) => got,
+            Err(wrong) => return Some(wrong),
         };
         let parts = |octets| <[u8]>::chunks(octets, self.part_size());
         let differs = parts(got).zip(parts(&expected)).position(|(proved, second)| proved != second);
