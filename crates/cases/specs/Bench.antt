@@ -1,15 +1,15 @@
--- The bench cases (document 01, "Bench cases"), P1 to P13, as one list: each line is a case as the document has it, and `Bench` says that
--- every line holds. What a line expects is written out. Assumes nothing.
+-- The bench cases (document 01, "Bench cases"), P1 to P13 and the example of `mcvlook`, as one list: each line is a case as the document has it, and
+-- `Bench` says that every line holds. What a line expects is written out. Assumes nothing.
 use mathlib.Core.Path.{_≡_}
-use Prim.Native.Nat.{ℕ, _+_, _-_, _*_}
+use Prim.Native.Nat.{ℕ}
 use Prim.Native.String.{String}
-use mathlib.Core.Bool.{false, _&&_}
+use mathlib.Core.Bool.{false}
 use mathlib.Core.List.{List, [], _∷_, _++_, map}
 use mathlib.Core.Option.{Option, none, some}
 use lib.ListN.{length, replicate}
-use lib.Dec.{leb}
-use Rattle.octets.specs.Choice.{pick, All}
+use Rattle.octets.specs.Choice.{All}
 use Rattle.octets.specs.Text.{ascii}
+use Rattle.octets.specs.Hex.{hexOctets}
 use Rattle.sheet.specs.declared.Sheet.{Sheet}
 use Rattle.sheet.specs.Line.{lf}
 use Rattle.sheet.specs.Value as sheet
@@ -28,6 +28,7 @@ use Rattle.reception.specs.Steps.{Said, gives, refuses, leaving, Try, readOf, a
 use Rattle.reception.specs.Schedule.{Routine, packetRoutine, timerRoutine, Step, reads, worksOut, stores, WorkedOut, State, after, start, run, taken}
 use Rattle.controller.specs.Event.{eventOf}
 use Rattle.controller.specs.Sending.{sendingOf}
+use Rattle.look.specs.Look.{lookOf}
 
 -- ---- sheet S
 
@@ -57,17 +58,9 @@ usersS = sheet.usersIn (textWith limitS)
 
 -- ---- how a line is written
 
--- octets as document 01 prints them: two digits, 0 to 9 and A to F, for each; what is none makes a number that is no octet
-abbrev pub digitValue : ℕ → ℕ
-digitValue c = pick (leb 48 c && leb c 57) (c - 48) (pick (leb 65 c && leb c 70) (c - 55) 256)
-
-abbrev pub pairs : List ℕ → List ℕ
-pairs [] = []
-pairs (high ∷ []) = 256 ∷ []
-pairs (high ∷ low ∷ rest) = (digitValue high * 16 + digitValue low) ∷ pairs rest
-
+-- octets as document 01 prints them
 abbrev pub hex : String → List ℕ
-hex digits = pairs (ascii digits)
+hex digits = hexOctets (ascii digits)
 
 -- a message: its kind, SSRC and values, in the order written; none asks for an Ack
 abbrev pub message : ℕ → ℕ → List Value → Meaning
@@ -114,10 +107,12 @@ pub data Line : Type 0 where
   comesIn : String → Meaning → Event → Line
   -- on stream 0 under a sheet: the record, what happens, the record then, what was done, the message, the timers stopped and started
   answered : Sheet → Record → What → Record → Done → Option Sent → List Timer → List Timer → Line
+  -- lines behind sheet S, and all that `mcvlook` prints for them
+  prints : List String → List String → Line
   -- a schedule from a record of stream 0, the record at its end, and the events that took, with their answers
   schedule : Record → List Moment → Record → List Answered → Line
 
--- P1 to P13, in document 01's words
+-- P1 to P13 and the example, in document 01's words
 unfoldable pub bench : List Line
 bench =
     -- P1 "grant"
@@ -164,6 +159,13 @@ bench =
     ∷ [])
     (stands Ending 0x00)
     (record { event = on0 T11Expired; reply = endRequest } ∷ record { event = on0 (Request 1); reply = rejection } ∷ [])
+    -- "`mcvlook` on S, then P3, P1 and `80`, prints all of"
+    ∷ prints
+    ("81CC0006000000024D43563006057369703A620006057369703A6100" ∷ "82CC0003000003E84D43563114020001" ∷ "80" ∷ [])
+    ("kind=1 ssrc=2 ack=0 user=sip:b named=sip:a result=- cause=- indicator=- origin=- about=-"
+    ∷ "kind=2 ssrc=1000 ack=0 user=- named=- result=1 cause=- indicator=- origin=- about=-"
+    ∷ "refused=1"
+    ∷ [])
     ∷ []
   where
     -- the answers: to T11, and to the request in the end
@@ -231,6 +233,8 @@ Holds (comesIn digits m e) =
 Holds (answered s x what y done sent stops starts) =
     let answer = reply done sent (timers stops starts) in
     (attemptOf s x (on0 what) ≡ gives (attempt x y answer)) × (storeOf s (attempt x y answer) (stream0 x) ≡ leaving (stream0 y) (gives answer))
+-- the sheet's text and the lines make the input
+Holds (prints lines out) = lookOf (textWith limitS ++ text lines) ≡ text out
 Holds (schedule x moments y took) = Runs x moments y took
 
 -- Every case of the bench holds.

@@ -17,13 +17,9 @@ use Rattle.octets.specs.Buffer.{over, putAt, zerosFrom, padded}
 use Rattle.octets.specs.Big.{bigAt, bigOf}
 use Rattle.octets.proofs.Choice.{le-or-lt, test-eq, same-eq, eq-same, every-getD, getD-every, every-replicate}
 use Rattle.octets.proofs.Big.{length-bigOf, bigOf-add, bigAt-put}
+use Rattle.octets.proofs.Lists.{drop-replicate}
 
 -- ---- a buffer overwritten from its front
-
--- nothing put leaves the buffer alone
-pub over-nil : (s : List ℕ) → over [] s ≡ s
-unfolding over
-over-nil s = refl
 
 -- octets that fit leave the length as it was
 pub length-over : (xs s : List ℕ) → length xs ≤ length s → length (over xs s) ≡ length s
@@ -52,19 +48,6 @@ part-over n xs ys s e =
     let rest = drop n (over xs s) in
     let l : length rest ≤ length (over xs s) - n = omega (arith, length-drop n (over xs s)) in
     rw (take-all (length (over xs s) - n) rest l, drop-of-length-le rest l, append-nil, ← e) (over-then xs ys s)
-
--- a store just past the octets
-pub set-over : (xs s : List ℕ) (y : ℕ) → length xs < length s → set (over xs s) (length xs) y ≡ over (xs ++ (y ∷ [])) s
-unfolding over
-set-over xs s y h =
-    rw (drop-cons s (length xs) 0, set-append-seam, length-append, add-one, append-assoc)
-
--- one octet more
-pub set-over-take : (name row : List ℕ) (i : ℕ) → i < length name → length name ≤ length row
-    → set (over (take i name) row) i (getD name i 0) ≡ over (take (i + 1) name) row
-set-over-take name row i h l =
-    let e : length (take i name) ≡ i = length-take-le i name (omega arith) in
-    rw (add-one, take-suc name i 0 h) (rw e at (set-over (take i name) row (getD name i 0) (rw e (omega arith))))
 
 -- ---- octets put at a place
 
@@ -178,6 +161,32 @@ pub putAt-over : (xs ys s : List ℕ) → length xs + length ys ≤ length s →
 putAt-over xs ys s h =
     rw (over-putAt xs s (omega arith), over-putAt (xs ++ ys) s (simp length-append h))
     (rw zero-add at (putAt-then s 0 xs ys (omega arith)))
+
+-- a store just before octets that were put
+pub set-before-putAt : (s : List ℕ) (at y : ℕ) (zs : List ℕ) → at + 1 + length zs ≤ length s
+    → set (putAt s (at + 1) zs) at y ≡ putAt s at (y ∷ zs)
+set-before-putAt s at y zs h = rw (← putAt-one) (putAt-under s at 1 (y ∷ []) zs (omega arith) (omega arith) h)
+
+-- one octet more, from the last backwards
+pub set-putAt-drop : (xs s : List ℕ) (at i : ℕ) → i < length xs → at + length xs ≤ length s
+    → set (putAt s (at + (i + 1)) (drop (i + 1) xs)) (at + i) (getD xs i 0) ≡ putAt s (at + i) (drop i xs)
+set-putAt-drop xs s at i h l =
+    rw (drop-cons xs i 0 h, ← add-one i, ← add-assoc)
+    (set-before-putAt s (at + i) (getD xs i 0) (drop (i + 1) xs) (rw length-drop (omega arith)))
+
+-- octets, others just past them, and a store just past those
+pub set-putAt-then : (s : List ℕ) (at : ℕ) (xs ys : List ℕ) (y : ℕ) → at + (length xs + (length ys + 1)) ≤ length s
+    → set (putAt (putAt s at xs) (at + length xs) ys) (at + length xs + length ys) y ≡ putAt s at (xs ++ (ys ++ (y ∷ [])))
+set-putAt-then s at xs ys y h =
+    let end : at + length xs + length ys ≡ at + length (xs ++ ys) = rw length-append (omega arith) in
+    rw (putAt-then s at xs ys (omega arith), end, ← append-assoc) (set-putAt s at (xs ++ ys) y (omega arith))
+
+-- octets put at a place and more just past them, and the place past both
+pub put-both : (out : List ℕ) (at : ℕ) (xs ys mid : List ℕ) (next : ℕ) (now : List ℕ) (end : ℕ) → mid ≡ putAt out at xs → next ≡ at + length xs
+    → now ≡ putAt mid next ys → end ≡ next + length ys → next + length ys ≤ length out
+    → (now ≡ putAt out at (xs ++ ys)) × (end ≡ at + length (xs ++ ys))
+put-both out at xs ys mid next now end m n p q room =
+    (p ∙ rw m (putAt-next out at xs ys next n room), rw length-append (omega arith))
 
 -- ---- a number put at a place
 
@@ -313,3 +322,8 @@ same-padded s at h =
     test-eq (same s p) (zerosFrom s at)
     (λ t. rw (← same-eq s p t, length-take-le at s h) at (zerosFrom-padded (length s) (take at s)))
     (λ z. eq-same s p (sym (padded-zerosFrom s at z h)))
+
+-- a row of zeros overwritten from its front is what was put there, filled up
+pub putAt-zeros : (k : ℕ) (xs : List ℕ) → length xs ≤ k → putAt (replicate k 0) 0 xs ≡ padded k 0 xs
+unfolding padded
+putAt-zeros k xs h = rw (putAt-fits (replicate k 0) 0 xs (rw length-replicate (omega arith)), zero-add, drop-replicate)

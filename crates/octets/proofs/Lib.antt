@@ -5,4 +5,6 @@ pub mod Places
 pub mod Big
 pub mod Buffer
 pub mod Text
+pub mod Hex
 pub mod First
+pub mod Parts

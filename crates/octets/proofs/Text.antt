@@ -8,6 +8,7 @@ use Prim.Native.Nat.{ℕ, zero, suc, _+_, _-_, _*_, _/_, _%_, _^_, _≤_, _<_}
 use native.Mathlib.Nat.{not-suc-le-zero, le-of-suc-le-suc, lt-of-lt-of-le, mul-le-mul-right, mul-assoc, mul-one, one-mul, pow-zero, pow-suc, pow-succ', div-lt-iff-lt-mul, zero-lt-suc}
 use native.Mathlib.Omega.{arith}
 use lib.ListN.{length, getD, take, drop, length-append, List·getD-append}
+use lib.Seq.{take-take, take-at, getD-at, getD-take, length-take-le}
 use lib.Dec.{T, leb, eqb, leb→le, le→leb}
 use borrow.Author.Tests.{lt-ltb, le-ltb, ne-eqb, eqb-false, not-true}
 use Rattle.octets.specs.Choice.{begins, every, front}
@@ -101,6 +102,13 @@ length-decimal-le (suc k) n h =
     tenth : n / 10 < 10 ^ suc k
     tenth = div-lt-iff-lt-mul (zero-lt-suc 9) .1 (rw (pow-suc 10 (suc k)) at h)
 
+-- a number has no more digits than it counts, and one
+pub length-decimal : (n : ℕ) → length (decimal n) ≤ n + 1
+length-decimal =
+    decimal-ind (λ n. length (decimal n) ≤ n + 1)
+    (λ n l. rw (decimal-small n l) (omega arith))
+    (λ n l h. rw (decimal-large n l, length-append) (omega arith))
+
 -- those of a number above zero do not begin with a zero
 pub decimal-lead : (n : ℕ) → 0 < n → 48 < getD (decimal n) 0 0
 decimal-lead =
@@ -141,6 +149,17 @@ value-lt a (c ∷ ds) t =
 -- k digits make a number below the k-th power of ten
 pub valueOf-lt : (ds : List ℕ) → T (every digit ds) → valueOf ds < 10 ^ length ds
 valueOf-lt ds t = rw one-mul at (value-lt 0 ds t)
+
+-- a smaller number has no more digits
+pub length-decimal-mono : (m n : ℕ) → m ≤ n → length (decimal m) ≤ length (decimal n)
+length-decimal-mono m n h = by (length (decimal n)) (length-decimal-pos n) below
+  where
+    below : m < 10 ^ length (decimal n)
+    below = let l : n < 10 ^ length (decimal n) = rw (value-decimal n) at (valueOf-lt (decimal n) (digits-decimal n)) in omega arith
+
+    by : (k : ℕ) → 1 ≤ k → m < 10 ^ k → length (decimal m) ≤ k
+    by zero p l = absurd (not-suc-le-zero p)
+    by (suc k) p l = length-decimal-le k m l
 
 -- ---- without leading zeros
 
@@ -192,6 +211,45 @@ decimal-value (c ∷ d ∷ ds) t u =
     let low = digit-low c first in
     let apart = eqb-false c 48 (not-true (eqb c 48) (T-true (not (eqb c 48)) u)) in
     rw (decimal-digit c first) at (decimal-valueFrom (0 + (c - 48)) (d ∷ ds) (omega arith) (T-and-right (digit c) (every digit (d ∷ ds)) t))
+
+-- ---- digits from the last backwards
+
+module _ (n i : ℕ) (e : length (decimal n) ≡ i + 1) where
+  -- all but the last of a number of ten and more are those of its tenth
+  length-tenth : 10 ≤ n → length (decimal (n / 10)) ≡ i
+  length-tenth big = omega (arith, simp length-append at (ap length (decimal-large n big)))
+
+  -- a number below ten has one
+  only-digit : n < 10 → i ≡ 0
+  only-digit small = omega (arith, ap length (decimal-small n small))
+
+  -- a number's last digit
+  pub decimal-last : getD (decimal n) i 0 ≡ 48 + n % 10
+  decimal-last =
+      ⊎-elim
+      (λ big. rw (decimal-large n big) (getD-at (decimal (n / 10)) (48 + n % 10) [] 0 i (length-tenth big)))
+      (λ small. let m : n % 10 ≡ n = omega arith in rw (decimal-small n small, only-digit small, m))
+      (le-or-lt 10 n)
+
+  -- those before it, if there are any, are its tenth's
+  pub decimal-tenth : 0 < i → take i (decimal n) ≡ decimal (n / 10)
+  decimal-tenth z =
+      ⊎-elim
+      (λ big. rw (decimal-large n big) (take-at (decimal (n / 10)) ((48 + n % 10) ∷ []) i (length-tenth big)))
+      (λ small. absurd (let o = only-digit small in omega arith))
+      (le-or-lt 10 n)
+
+-- the number whose digits are the first i + 1 of a list ends with the list's at i
+pub decimal-at : (ds : List ℕ) (n i : ℕ) → i < length ds → decimal n ≡ take (i + 1) ds → 48 + n % 10 ≡ getD ds i 0
+decimal-at ds n i h e =
+    sym (decimal-last n i (ap length e ∙ length-take-le (i + 1) ds (omega arith)))
+    ∙ (ap (λ (l : List ℕ). getD l i 0) e ∙ getD-take (i + 1) ds i 0 (omega arith))
+
+-- and the first i are its tenth's
+pub decimal-before : (ds : List ℕ) (n i : ℕ) → i < length ds → decimal n ≡ take (i + 1) ds → 0 < i → decimal (n / 10) ≡ take i ds
+decimal-before ds n i h e z =
+    sym (decimal-tenth n i (ap length e ∙ length-take-le (i + 1) ds (omega arith)) z)
+    ∙ (ap (take i) e ∙ take-take i (i + 1) ds (omega arith))
 
 -- ---- a number at the front of a text
 

@@ -2,4 +2,5 @@ pub mod Choice
 pub mod Big
 pub mod Buffer
 pub mod Text
+pub mod Hex
 pub mod Promises

@@ -42,3 +42,10 @@ put-u32≡ s at n after = after ≡ putAt s at (bigOf 4 n)
 
 pub put-u32-once : (s : List ℕ) (at n : ℕ) (x y : List ℕ) → put-u32≡ s at n x → put-u32≡ s at n y → x ≡ y
 put-u32-once s at n x y p q = one-value x y p q
+
+-- octets put at a place
+abbrev pub put-octets≡ : List ℕ → ℕ → List ℕ → List ℕ → Type 0
+put-octets≡ s at octets after = after ≡ putAt s at octets
+
+pub put-octets-once : (s : List ℕ) (at : ℕ) (octets x y : List ℕ) → put-octets≡ s at octets x → put-octets≡ s at octets y → x ≡ y
+put-octets-once s at octets x y p q = one-value x y p q

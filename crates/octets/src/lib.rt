@@ -1,7 +1,7 @@
-// Big-endian numbers read from a slice at a place and put into one (RFC 3550, 4).
+// Big-endian numbers read from a slice at a place and put into one (RFC 3550, 4), and octets put into one.
 ghost use mathlib.Core.Path.{_≡_};
 ghost use lib.ListN.{getD};
-ghost use Rattle.octets.specs.Promises.{u16-at≡, u32-at≡, put-u16≡, put-u32≡};
+ghost use Rattle.octets.specs.Promises.{u16-at≡, u32-at≡, put-u16≡, put-u32≡, put-octets≡};
 
 // The octet at a place, or 0 past the end.
 fn octet_at(s: &[u8], at: usize) -> u8
@@ -56,4 +56,21 @@ pub fn put_u32(s: &mut [u8], at: usize, n: u32)
     }
     put_u16(s, at, (n / 65536) as u16);
     put_u16(s, at + 2, (n % 65536) as u16);
+}
+
+// Puts octets at a place, or leaves the buffer alone where they do not fit.
+pub fn put_octets(s: &mut [u8], at: usize, octets: &[u8])
+    ensures { λ _. ⌜ put-octets≡ (now (s .entry)) at (now (octets .entry)) (now (s .exit)) ⌝ }
+{
+    if s.len() < octets.len() {
+        return;
+    }
+    if s.len() - octets.len() < at {
+        return;
+    }
+    let mut i = 0;
+    while i < octets.len() {
+        s[at + i] = octets[i];
+        i += 1;
+    }
 }

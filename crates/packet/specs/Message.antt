@@ -1,8 +1,6 @@
--- A message's values (document 01, "Packet" and "Bench program"): all that a kind has, and apart from that the ten that
--- `mcvlook` prints. Assumes nothing.
+-- A message's values (document 01, "Packet"): all that a kind has. Assumes nothing.
 use Prim.Native.Nat.{ℕ}
 use mathlib.Core.List.{List, [], _∷_}
-use Rattle.octets.specs.Choice.{pick}
 use Rattle.packet.specs.declared.Name.{Name}
 use Rattle.packet.specs.declared.Head.{Head}
 use Rattle.packet.specs.declared.Indicator.{Indicator}
@@ -56,20 +54,3 @@ abbrev pub stepSaid : Step → Stepped
 stepSaid (FieldStep f) = field f
 stepSaid EndStep = end
 stepSaid (RefusedStep r) = stepRefused (r .number) (r .at)
-
--- "ten values in order": kind, SSRC, Ack asked, and these seven
-abbrev pub ten : ℕ → Head → Held → Held → Held → Held → Held → Held → Held → List Held
-ten kind h user transmitter result cause indicator source about =
-    given kind ∷ given (h .ssrc) ∷ given (pick (h .ack) 1 0) ∷ user ∷ transmitter ∷ result ∷ cause ∷ indicator ∷ source ∷ about ∷ []
-
--- "kind, SSRC, Ack asked (0 or 1), User ID, named transmitter, Result, cause, Indicator, Source, Message Type; `-` where the
--- message has none. User ID is for kind 1 only."
-unfoldable pub printed : Message → List Held
-printed (ReceiveRequest h user source i) =
-    ten 1 h (nameSaid user) (nameSaid source) absent absent (indicatorSaid i) absent absent
-printed (ReceiveResponse h v i) = ten 2 h absent absent (resultSaid v) (causeSaid v) (indicatorSaid i) absent absent
-printed (EndRequest h transmitter i) = ten 3 h absent (nameSaid transmitter) absent absent (indicatorSaid i) absent absent
-printed (EndResponse h transmitter) = ten 4 h absent (nameSaid transmitter) absent absent absent absent absent
-printed (TransmissionEnd h cause i) = ten 5 h absent absent absent (given cause) (indicatorSaid i) absent absent
-printed (TransmissionEndResponse h) = ten 6 h absent absent absent absent absent absent absent
-printed (Ack h source about) = ten 7 h absent absent absent absent absent (given source) (given about)

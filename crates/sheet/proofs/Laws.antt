@@ -14,3 +14,4 @@ pub mod Scanned
 pub mod Claims
 pub mod Values
 pub mod Bounds
+pub mod Decides

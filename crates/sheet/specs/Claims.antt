@@ -2,12 +2,12 @@
 -- Assumes nothing.
 use mathlib.Core.Path.{_≡_}
 use mathlib.Core.Logic.{_↔_}
-use Prim.Native.Nat.{ℕ, _<_}
+use Prim.Native.Nat.{ℕ, _≤_, _<_}
 use mathlib.Core.List.{List}
 use lib.ListN.{length, take}
 use lib.Dec.{T}
 use Rattle.sheet.specs.declared.Sheet.{Sheet}
-use Rattle.sheet.specs.Line.{textOf}
+use Rattle.sheet.specs.Line.{longest, textOf}
 use Rattle.sheet.specs.Reading.{lines}
 use Rattle.sheet.specs.Value.{entriesOf, validAlone, validWith, noRefusal, badLine, readOf, usersIn}
 
@@ -41,6 +41,11 @@ SomeBegins t k =
 -- no valid value's text is the front of t
 abbrev pub NoneReads : List ℕ → Type 0
 NoneReads t = (s : Sheet) (users : List (List ℕ)) → T (validWith s users) → take (length (valueText s users)) t ≡ valueText s users → ⊥
+
+-- How much of a text decides: as many octets as the longest sheet has. What they read to, the text reads to, and where they are refused, it is, with
+-- the same line.
+abbrev pub LongestDecides : Type 0
+LongestDecides = (t : List ℕ) (n : ℕ) → longest ≤ n → (readOf (take n t) ≡ readOf t) × (usersIn (take n t) ≡ usersIn t)
 
 -- Which line is named: a text that no sheet is the front of is refused, with the least k such that no valid value's text has
 -- the first k lines of t as its first k lines.

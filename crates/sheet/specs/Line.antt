@@ -1,12 +1,12 @@
 -- One line of a call sheet as text (document 01, "Call sheet"), and the text of a whole sheet. Assumes nothing.
-use Prim.Native.Nat.{ℕ, suc, _+_}
+use Prim.Native.Nat.{ℕ, suc, _+_, _*_}
 use mathlib.Core.Bool.{Bool, _&&_}
-use mathlib.Core.List.{List, [], _∷_, _++_}
-use lib.ListN.{length, drop}
+use mathlib.Core.List.{List, [], _∷_, _++_, map, foldr}
+use lib.ListN.{length, drop, replicate}
 use lib.Dec.{leb}
 use Rattle.octets.specs.Choice.{pick, front}
 use Rattle.octets.specs.Text.{decimal, valueOf, digit}
-use Rattle.sheet.specs.Table.{Row, rowAt}
+use Rattle.sheet.specs.Table.{Row, table, seatRow, mostSeats, rowAt}
 
 -- what a line holds: its number and, on a seat's line, the User ID
 pub record Entry : Type 0 where
@@ -43,8 +43,16 @@ textFrom k (e ∷ es) = lineOf (rowAt k) e ++ textFrom (suc k) es
 unfoldable pub textOf : List Entry → List ℕ
 textOf es = textFrom 0 es
 
+-- the most octets that a line of this row has: its key, the digits of its greatest number, and on a seat's line the longest User ID
+unfoldable pub widest : Row → ℕ
+widest r = length (r .key) + length (decimal (r .greatest)) + length (tailOf r (replicate longestName 0x21))
+
+-- the most octets that a sheet has
+unfoldable pub longest : ℕ
+longest = foldr _+_ (mostSeats * widest seatRow) (map widest table)
+
 -- The entry that a text which begins with a line of this row has there: the number that the digits after the key make, and
--- on a seat's line, what stands after the comma, "a User ID .. starts after the first comma". Whether the text does
+-- on a seat's line, what stands after the comma, "A User ID .. starts after the first comma". Whether the text does
 -- begin with that entry's line is asked apart.
 unfoldable pub digitsAfter : Row → List ℕ → List ℕ
 digitsAfter r s = front digit (drop (length (r .key)) s)

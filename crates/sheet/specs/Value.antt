@@ -110,7 +110,7 @@ validAlone s =
 abbrev pub noRefusal : Refusal
 noRefusal = record { number = 0; at = 0 }
 
--- "12: sheet, with the number of its first bad or missing line, from 1"
+-- 12, "sheet, with the number of its first bad or missing line, from 1"
 abbrev pub badLine : ℕ → Refusal
 badLine k = record { number = 12; at = k }
 

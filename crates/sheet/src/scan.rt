@@ -8,7 +8,6 @@ use super::line::line_at;
 use super::number::is_good_number;
 use super::numbers::Numbers;
 use super::seat::is_new_name;
-use super::seat::keep;
 use super::table::LINES;
 use super::table::NUMBER_LINES;
 ghost use mathlib.Core.Path.{_≡_};
@@ -97,7 +96,7 @@ pub fn scan(text: &[u8], users: &mut Users) -> Reading
         }
         if NUMBER_LINES <= k {
             let s = k - NUMBER_LINES;
-            keep(&mut users[s][..], &text[name..end]);
+            octets::put_octets(&mut users[s][..], 0, &text[name..end]);
         }
         at = end + 1;
         k += 1;

@@ -6,10 +6,10 @@ use super::user::is_user_id;
 use super::user::name_length;
 ghost use mathlib.Core.Path.{_≡_};
 ghost use mathlib.Core.Logic.{_↔_};
-ghost use Prim.Native.Nat.{ℕ, _<_, _≤_};
+ghost use Prim.Native.Nat.{ℕ, _<_};
 ghost use lib.Dec.{T};
 ghost use lib.ListN.{length};
-ghost use Rattle.octets.specs.Buffer.{over, zerosFrom};
+ghost use Rattle.octets.specs.Buffer.{zerosFrom};
 ghost use Rattle.sheet.specs.Inner.{newName, goodRow};
 
 // Whether every octet of a row from a place on is zero.
@@ -69,16 +69,4 @@ pub fn are_good_rows(users: &Users, seats: u32) -> bool
         s += 1;
     }
     true
-}
-
-// Puts a name into the front of a row.
-pub fn keep(row: &mut [u8], name: &[u8])
-    requires { ⌜ length (now name) ≤ length (now row) ⌝ }
-    ensures { λ _. ⌜ now (row .exit) ≡ over (now (name .entry)) (now (row .entry)) ⌝ }
-{
-    let mut i = 0;
-    while i < name.len() {
-        row[i] = name[i];
-        i += 1;
-    }
 }

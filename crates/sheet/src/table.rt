@@ -1,7 +1,6 @@
 // The lines of a sheet, as a table (document 01, "Call sheet"). A later line with a number is a row more, its key at the end of
 // KEYS, so that no other row moves.
 use super::SEATS;
-ghost use mathlib.Core.Path.{_≡_};
 ghost use Rattle.sheet.specs.Inner.{RuleOf};
 
 // Where a line's key begins in KEYS, and where it ends; the least and the greatest number on the line; its family, of which

@@ -27,7 +27,7 @@ pub writing-apart : (x y : Writing) → writingSaid x ≡ writingSaid y → x �
 writing-apart x y e = sym (writing-back x) ∙ ap writingBack e ∙ writing-back y
 
 -- of what was made there is one answer, and one buffer afterwards
-answered-once : (w : Made) (out : List ℕ) (x y : Writing) (now other : List ℕ)
+pub answered-once : (w : Made) (out : List ℕ) (x y : Writing) (now other : List ℕ)
     → Answered w out x now → Answered w out y other → (x ≡ y) × (now ≡ other)
 answered-once w out x y now other e f =
     (one-answer writingSaid writing-apart x y (e .0) (f .0), one-value now other (e .1) (f .1))

@@ -14,18 +14,6 @@ ghost use Rattle.writing.specs.Inner.{userContent, fieldSize, partOctets
 // The ID octet of a User ID.
 const USER_ID: u8 = packet::codes::USER_ID as u8;
 
-// Puts octets at a place.
-fn put_octets(s: &mut [u8], at: usize, octets: &[u8])
-    requires { ⌜ at + length (now octets) ≤ length (now s) ⌝ }
-    ensures { λ _. ⌜ now (s .exit) ≡ putAt (now (s .entry)) at (now (octets .entry)) ⌝ }
-{
-    let mut i = 0;
-    while i < octets.len() {
-        s[at + i] = octets[i];
-        i += 1;
-    }
-}
-
 // Puts a field that fills a word, and gives the place past it.
 fn put_word(s: &mut [u8], at: usize, word: u32) -> usize
     requires { ⌜ at + 4 ≤ length (now s) ⌝ }
@@ -44,7 +32,7 @@ fn put_user(s: &mut [u8], at: usize, user: &[u8]) -> usize
     octets::put_u32(s, at + size - 4, 0);
     s[at] = USER_ID;
     s[at + 1] = user.len() as u8;
-    put_octets(s, at + 2, user);
+    octets::put_octets(s, at + 2, user);
     at + size
 }
 

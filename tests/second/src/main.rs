@@ -6,8 +6,12 @@
 //!     second reception compare SEED ROUNDS < ANSWERS
 //!     second controller make SEED ROUNDS > CASES
 //!     second controller compare SEED ROUNDS < ANSWERS
+//!     second look < INPUT
+//!     second look make SEED COUNT DIR
 //!     second sample cases > crates/answers/stdin
 //!     second sample answers > crates/answers/stdout
+//!     second sample bench > samples/bench.txt
+//!     second sample every > samples/every.txt
 
 mod asked;
 mod bench;
@@ -16,6 +20,7 @@ mod controller;
 mod damage;
 mod drafts;
 mod good;
+mod look;
 mod messages;
 mod packet;
 mod packets;
@@ -36,11 +41,12 @@ mod writer;
 use asked::Asked;
 use random::Random;
 use std::io::{self, BufWriter, Write};
+use std::path::Path;
 use std::process::ExitCode;
 use wire::Case;
 
 const USAGE: &str = "second [reception|controller] make SEED ROUNDS | [reception|controller] compare SEED ROUNDS | \
-    sample cases | sample answers";
+    look | look make SEED COUNT DIR | sample cases | sample answers | sample bench | sample every";
 
 /// Every case about sheets and packets that is thought of, then so many rounds of cases by chance.
 fn cases(seed: u64, rounds: usize) -> Vec<Case> {
@@ -70,6 +76,10 @@ fn print_cases(cases: impl ExactSizeIterator<Item = Vec<u8>>) -> io::Result<bool
     out.flush().map(|()| true)
 }
 
+fn print(octets: &[u8]) -> io::Result<bool> {
+    io::stdout().write_all(octets).map(|()| true)
+}
+
 /// Makes cases, or compares the answers to them, if the words ask for that.
 fn run_on<C: Asked>(words: &[&str], cases: fn(u64, usize) -> Vec<C>) -> Option<io::Result<bool>> {
     let made = |seed: &str, rounds: &str| Some(cases(seed.parse().ok()?, rounds.parse().ok()?));
@@ -85,8 +95,12 @@ fn run(words: &[&str]) -> Option<io::Result<bool>> {
     match words {
         ["reception", words @ ..] => run_on(words, reception::cases),
         ["controller", words @ ..] => run_on(words, controller::cases),
+        ["look"] => Some(look::run().map(|()| true)),
+        ["look", "make", seed, count, dir] => Some(look::make(seed.parse().ok()?, count.parse().ok()?, Path::new(dir))),
         ["sample", "cases"] => Some(print_cases(sample::octets().into_iter())),
-        ["sample", "answers"] => Some(io::stdout().write_all(&sample::answer_octets()).map(|()| true)),
+        ["sample", "answers"] => Some(print(&sample::answer_octets())),
+        ["sample", "bench"] => Some(print(&look::sample::bench())),
+        ["sample", "every"] => Some(print(&look::sample::every())),
         _ => run_on(words, cases),
     }
 }

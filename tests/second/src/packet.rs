@@ -125,55 +125,60 @@ pub fn field_at(octets: &[u8], place: usize) -> Step<'_> {
     }
 }
 
-/// All fields of a packet, in their order.
-struct Fields<'a>(Vec<Field<'a>>);
+/// The fields of a packet, which are all good.
+struct Fields<'a>(&'a [u8]);
 
 impl<'a> Fields<'a> {
     fn of(packet: &'a [u8]) -> Result<Fields<'a>, u32> {
-        let mut fields = vec![];
         let mut place = HEAD;
         while let Some(field) = field_at(packet, place)? {
             place = field.next;
-            fields.push(field);
         }
-        Ok(Fields(fields))
+        Ok(Fields(packet))
     }
 
-    fn with_id(&self, id: u8) -> Vec<&Field<'a>> {
-        self.0.iter().filter(|field| field.id == id).collect()
+    /// The fields that have this ID, in their order.
+    fn with_id(&self, id: u8) -> impl Iterator<Item = Field<'a>> + 'a {
+        let packet = self.0;
+        let at = move |place| field_at(packet, place).ok().flatten();
+        std::iter::successors(at(HEAD), move |field| at(field.next)).filter(move |field| field.id == id)
+    }
+
+    /// The field that may be absent and never stands twice.
+    fn at_most_once(&self, id: u8) -> Option<Option<Field<'a>>> {
+        let mut fields = self.with_id(id);
+        let first = fields.next();
+        fields.next().is_none().then_some(first)
     }
 
     /// The field that has to be there once.
-    fn once(&self, id: u8) -> Option<&Field<'a>> {
-        match self.with_id(id)[..] {
-            [field] => Some(field),
-            _ => None,
-        }
+    fn once(&self, id: u8) -> Option<Field<'a>> {
+        self.at_most_once(id)?
     }
 
-    /// The Indicator, which may be absent and never stands twice.
     fn indicator(&self) -> Option<Option<u16>> {
-        match self.with_id(INDICATOR)[..] {
-            [] => Some(None),
-            [field] => field.number().map(Some),
-            _ => None,
+        match self.at_most_once(INDICATOR)? {
+            None => Some(None),
+            Some(field) => field.number().map(Some),
         }
     }
 
     /// The cause beside this Result: there exactly if the Result is 0.
     fn cause_beside(&self, result: u16) -> Option<Option<u16>> {
-        match (result, &self.with_id(REJECT_CAUSE)[..]) {
-            (0, [field]) => field.cause().map(Some),
-            (1, []) => Some(None),
+        match (result, self.at_most_once(REJECT_CAUSE)?) {
+            (0, Some(field)) => field.cause().map(Some),
+            (1, None) => Some(None),
             _ => None,
         }
     }
 }
 
 fn receive_request(fields: &Fields) -> Option<Message> {
-    let [user, source] = fields.with_id(USER_ID)[..] else {
+    let mut names = fields.with_id(USER_ID);
+    let (user, source) = (names.next()?, names.next()?);
+    if names.next().is_some() {
         return None;
-    };
+    }
     let (user, named) = (Some(user.name()?), Some(source.name()?));
     Some(Message { user, named, indicator: fields.indicator()?, ..Message::default() })
 }
@@ -217,12 +222,6 @@ fn content(kind: u32, fields: &Fields, result_id: u8) -> Option<Message> {
     }
 }
 
-/// The kind that has these letters and this number on the sheet.
-fn kind_of(sheet: &Sheet, letters: &[u8], number: u8) -> Option<u32> {
-    let is_it = |(its, key): &(&[u8; 4], &str)| letters == &its[..] && sheet.number(key) == u32::from(number);
-    MESSAGES.iter().position(is_it).map(|at| at as u32 + 1)
-}
-
 fn is_size_right(packet: &[u8]) -> bool {
     (HEAD..=LONGEST).contains(&packet.len()) && packet.len().is_multiple_of(4)
 }
@@ -233,22 +232,46 @@ fn is_head_right(packet: &[u8]) -> bool {
     packet[0] >> 5 == 0b100 && packet[1] == 204 && words * 4 == packet.len()
 }
 
-/// The message of a packet, or the first that holds of 12, 1, 2, 3, 4 and 5.
+/// What a good sheet says about packets: the number of each kind, and the ID of a Result.
+pub struct Numbers {
+    kinds: [u8; MESSAGES.len()],
+    result_id: u8,
+}
+
+impl Numbers {
+    pub fn on(sheet: &Sheet) -> Numbers {
+        let number = |key: &str| sheet.number(key) as u8;
+        Numbers { kinds: MESSAGES.map(|(_, key)| number(key)), result_id: number("resultid") }
+    }
+
+    /// The kind that has these letters and this number.
+    fn kind_of(&self, letters: &[u8], number: u8) -> Option<u32> {
+        let mut kinds = MESSAGES.iter().zip(self.kinds);
+        kinds.position(|((its, _), its_number)| letters == *its && number == its_number).map(|at| at as u32 + 1)
+    }
+
+    /// The message of a packet, or the first that holds of 1, 2, 3, 4 and 5.
+    pub fn read(&self, packet: &[u8]) -> Reading {
+        if !is_size_right(packet) {
+            return Err(1);
+        }
+        if !is_head_right(packet) {
+            return Err(2);
+        }
+        let kind = self.kind_of(&packet[8..HEAD], packet[0] & 0x0F).ok_or(3u32)?;
+        let fields = Fields::of(packet)?;
+        let content = content(kind, &fields, self.result_id).ok_or(5u32)?;
+        let ssrc = u32::from_be_bytes([packet[4], packet[5], packet[6], packet[7]]);
+        Ok(Message { kind, ssrc, ack: packet[0] & 0x10 != 0, ..content })
+    }
+}
+
+/// The message of a packet, or 12 where no sheet reads to the value, or the first that holds of 1, 2, 3, 4 and 5.
 pub fn read(sheet: &Sheet, packet: &[u8]) -> Reading {
     if !sheet.is_valid_alone() {
         return Err(12);
     }
-    if !is_size_right(packet) {
-        return Err(1);
-    }
-    if !is_head_right(packet) {
-        return Err(2);
-    }
-    let kind = kind_of(sheet, &packet[8..HEAD], packet[0] & 0x0F).ok_or(3u32)?;
-    let fields = Fields::of(packet)?;
-    let content = content(kind, &fields, sheet.number("resultid") as u8).ok_or(5u32)?;
-    let ssrc = u32::from_be_bytes([packet[4], packet[5], packet[6], packet[7]]);
-    Ok(Message { kind, ssrc, ack: packet[0] & 0x10 != 0, ..content })
+    Numbers::on(sheet).read(packet)
 }
 
 #[cfg(test)]

@@ -7,6 +7,7 @@ use Rattle.writing.specs as writing
 use Rattle.reception.specs as reception
 use Rattle.reception.specs.Record.{idle, ending}
 use Rattle.controller.specs as controller
+use Rattle.look.specs as look
 use Rattle.cases.specs.Bench.{sheetWith, usersS, bench, Bench}
 
 -- one line and those after it
@@ -17,8 +18,9 @@ a and b = (a, b)
 -- Both sides of every line compute to the same. What they compute by stands crate by crate.
 pub bench-holds : Bench
 unfolding bench sheetWith usersS lib.Count.ones
-    octets.Text.decimal octets.Buffer.padded octets.Big.bigAt octets.Big.bigOf
-    sheet.Table.table sheet.Table.seatRow sheet.Table.numberLines sheet.Table.seatsLine sheet.Table.mostSeats sheet.Table.rowAt sheet.Line.tailOf
+    mathlib.Core.List.flatten
+    octets.Text.decimal octets.Hex.hexValue octets.Hex.hexDigit octets.Hex.isHex octets.Hex.hexOctets octets.Buffer.padded octets.Big.bigAt octets.Big.bigOf
+    sheet.Table.table sheet.Table.seatRow sheet.Table.numberLines sheet.Table.seatsLine sheet.Table.mostSeats sheet.Table.rowAt sheet.Line.tailOf sheet.Line.textFrom sheet.Line.textOf
     sheet.Line.lineOf sheet.Line.digitsAfter sheet.Line.nameAfter sheet.Line.entryIn sheet.Judge.taken sheet.Judge.goodNumber sheet.Judge.userId
     sheet.Judge.goodName sheet.Judge.good sheet.Judge.inTurn sheet.Judge.whole sheet.Judge.valid sheet.Reading.goodLine sheet.Reading.behind
     sheet.Reading.readBy sheet.Reading.outcome sheet.Value.sheetBy sheet.Value.sheetFrom sheet.Value.sheetOf sheet.Value.rowOf sheet.Value.usersOf
@@ -43,6 +45,9 @@ unfolding bench sheetWith usersS lib.Count.ones
     reception.Table.afterClearing reception.Table.onEnd reception.Table.onT11 reception.Table.ruleFor reception.Steps.seenOf reception.Steps.readOf
     reception.Steps.attemptOf reception.Steps.workOf reception.Steps.replyOf reception.Steps.stored reception.Steps.storeOf reception.Schedule.noted reception.Schedule.after
     reception.Schedule.ifTook reception.Schedule.takenAt reception.Schedule.run reception.Schedule.taken
+    look.Lines.before look.Lines.linesOf look.Line.lineRight look.Line.packetIn look.Line.namesOf look.Line.under
+    look.Line.tenOf look.Line.valueText look.Line.labelled look.Line.numberLine look.Line.textOf look.Line.lineAs look.Line.lineOf look.Look.sheetLine
+    look.Look.lookOf
     controller.Event.onStream controller.Event.requestBy controller.Event.heard controller.Event.eventFrom controller.Event.eventOf
     controller.Sending.valuesOut controller.Sending.messageOut controller.Sending.parcelOf controller.Sending.sendingOf
 bench-holds =
@@ -68,4 +73,6 @@ bench-holds =
       refl,
       refl,
     )
+    -- what is printed
+    and refl
     and tt

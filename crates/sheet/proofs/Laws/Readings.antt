@@ -10,12 +10,13 @@ use native.Mathlib.Omega.{arith}
 use lib.ListN.{length, length-append}
 use lib.Seq.{drop-append-seam}
 use lib.Dec.{T}
-use Rattle.octets.specs.Choice.{begins}
-use Rattle.octets.proofs.Choice.{T-true, decide, T-and, T-and-left, T-and-right, begins-append, begins-split}
+use Rattle.octets.specs.Choice.{pick, begins}
+use Rattle.octets.proofs.Choice.{pick-cases, T-true, decide, T-and, T-and-left, T-and-right, begins-append, begins-split}
 use Rattle.sheet.specs.Table.{rowAt}
 use Rattle.sheet.specs.Line.{Entry, lineOf, entryIn, textFrom, textOf}
 use Rattle.sheet.specs.Judge.{numbersIn, good, inTurn, whole, valid}
-use Rattle.sheet.specs.Reading.{reads, refused, goodLine, behind, readBy, outcome}
+use Rattle.sheet.specs.Reading.{Outcome, reads, refused, goodLine, behind, readBy, outcome}
+use Rattle.sheet.specs.Value.{readingOf, readOf}
 use Rattle.sheet.proofs.Laws.Entries.{good-shaped, numbersIn-append, whole-front}
 use Rattle.sheet.proofs.Laws.Lines.{entry-line, line-pos}
 
@@ -190,3 +191,26 @@ pub reads-outcome : (es : List Entry) (u : List ℕ) → T (valid es) → outcom
 unfolding outcome valid textOf
 reads-outcome es u t =
     read-back es (length (textFrom 0 es ++ u)) [] u (T-and-left (inTurn good [] es) (whole (numbersIn es)) t) (T-and-right (inTurn good [] es) (whole (numbersIn es)) t) (le-refl _)
+
+-- ---- which line may be named
+
+-- no line is named past the last that was read
+readBy-at : (f : ℕ) (b : List Entry) (s : List ℕ) → readingOf (readBy f b s) .refusal .at ≤ length b + f + 1
+unfolding readBy readingOf
+readBy-at zero b s =
+    pick-cases (λ (o : Outcome). readingOf o .refusal .at ≤ length b + 0 + 1) (whole (numbersIn b)) (reads b) (refused (length b + 1))
+    (λ _. omega arith) (λ _. omega arith)
+readBy-at (suc f) b s =
+    let next = b ++ (entryIn (rowAt (length b)) s ∷ []) in
+    let more = readBy f next (behind b s) in
+    let P : Outcome → Type 0 = λ o. readingOf o .refusal .at ≤ length b + suc f + 1 in
+    pick-cases P (whole (numbersIn b)) (reads b) (pick (goodLine b s) more (refused (length b + 1)))
+    (λ _. omega arith)
+    (λ _. pick-cases P (goodLine b s) more (refused (length b + 1))
+    (λ _. omega (arith, readBy-at f next (behind b s), length-append b (entryIn (rowAt (length b)) s ∷ [])))
+    (λ _. omega arith))
+
+-- nor past the octets of the text
+pub read-at : (t : List ℕ) → readOf t .refusal .at ≤ length t + 1
+unfolding readOf outcome
+read-at t = omega (arith, readBy-at (length t) [] t)

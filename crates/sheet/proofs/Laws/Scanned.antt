@@ -11,10 +11,10 @@ use lib.Seq.{drop-append-le, drop-drop, getD-at, getD-append-add, length-take-le
 use lib.Dec.{T, leb, leb→le}
 use borrow.Author.Tests.{le-leb, lt-leb}
 use Rattle.octets.specs.Choice.{pick, same, begins, every, some-of}
-use Rattle.octets.specs.Buffer.{padded, over}
+use Rattle.octets.specs.Buffer.{padded, over, putAt}
 use Rattle.octets.proofs.Lists.{map-drop, drop-replicate}
 use Rattle.octets.proofs.Choice.{T-true, T-false, le-or-lt, T-and-left, T-and-right}
-use Rattle.octets.proofs.Buffer.{take-padded, set-padded, getD-padded, padded-full, padded-nil}
+use Rattle.octets.proofs.Buffer.{over-putAt, take-padded, set-padded, getD-padded, padded-full, padded-nil}
 use Rattle.sheet.specs.Table.{table, numberLines, seatsLine, mostSeats, rowAt}
 use Rattle.sheet.specs.Line.{Entry, longestName, visible, lineOf, entryIn, textFrom, textOf}
 use Rattle.sheet.specs.Judge.{numbersIn, namesIn, goodNumber, goodName, userId, good, inTurn, whole}
@@ -343,38 +343,6 @@ userId-short name t =
 
 module _ {t numbers : List ℕ} {users : List (List ℕ)} {total at k : ℕ} (i : Scanned t numbers users total at k) (h : k < total)
     (n a e : ℕ) (j : JudgedIs t at k numbers users (Good n a e)) where
-  -- how many lines there are after it
-  abbrev pub TotalAfter : ℕ → Type 0
-  TotalAfter total′ = ((k + 1 ≡ numberLines) × (total′ ≡ numberLines + n)) ⊎ ((k + 1 ≡ numberLines → ⊥) × (total′ ≡ total))
-
-  -- the User IDs after it
-  abbrev pub UsersAfter : List (List ℕ) → Type 0
-  UsersAfter users′ =
-      ((numberLines ≤ k) × (users′ ≡ set users (k - numberLines) (over (take (e - a) (drop a t)) (getD users (k - numberLines) [])))) ⊎ ((k < numberLines) × (users′ ≡ users))
-
-  total-after : (total′ : ℕ) → TotalAfter total′ → total′ ≡ numberLines + seatsIn (numbersIn (i .before ++ (entryIn (rowAt k) (drop at t) ∷ [])))
-  unfolding numberLines table JudgedIs
-  total-after total′ w =
-      ⊎-elim
-      (λ u. u .1 ∙ ap (λ (x : ℕ). numberLines + x) (j .1) ∙ total-seats i h (u .0))
-      (λ u. u .1 ∙ total-other i h (u .0))
-      w
-
-  users-after : (users′ : List (List ℕ)) → UsersAfter users′ → users′ ≡ usersOf (i .before ++ (entryIn (rowAt k) (drop at t) ∷ []))
-  unfolding numberLines table JudgedIs
-  users-after users′ w =
-      ⊎-elim
-      (λ u. u .1 ∙ ap (λ (name : List ℕ). set users (k - numberLines) (over name (getD users (k - numberLines) []))) (j .2 .octets) ∙ users-next i h (u .0))
-      (λ u. u .1 ∙ users-same i h (u .0))
-      w
-
-  -- what the pass holds after a turn
-  pub scanned-turn : (users′ : List (List ℕ)) (total′ : ℕ) → UsersAfter users′ → TotalAfter total′ → Scanned t (set numbers k n) users′ total′ (e + 1) (k + 1)
-  unfolding JudgedIs
-  scanned-turn users′ total′ u w =
-      subst (λ (x : ℕ). Scanned t (set numbers k x) users′ total′ (e + 1) (k + 1)) (sym (j .1))
-      (scanned-more i h (j .0) users′ total′ (e + 1) (users-after users′ u) (total-after total′ w) (j .3) (let l = j .2 .within in omega arith))
-
   -- a name fits its row
   name-short : numberLines ≤ k → length (entryIn (rowAt k) (drop at t) .name) ≤ longestName
   unfolding JudgedIs goodAt newName
@@ -393,9 +361,45 @@ module _ {t numbers : List ℕ} {users : List (List ℕ)} {total at k : ℕ} (i 
       ∙ ap length (next-row (i .before) (let c = i .count in omega arith))
 
   -- so that it is put whole
-  pub name-fits : numberLines ≤ k → length (take (e - a) (drop a t)) ≤ length (getD users (k - numberLines) [])
+  name-fits : numberLines ≤ k → length (take (e - a) (drop a t)) ≤ length (getD users (k - numberLines) [])
   unfolding numberLines table JudgedIs
   name-fits l = let m : length (take (e - a) (drop a t)) ≡ length (entryIn (rowAt k) (drop at t) .name) = ap length (j .2 .octets) in omega (arith, name-short l, row-long l)
+
+  -- how many lines there are after it
+  abbrev pub TotalAfter : ℕ → Type 0
+  TotalAfter total′ = ((k + 1 ≡ numberLines) × (total′ ≡ numberLines + n)) ⊎ ((k + 1 ≡ numberLines → ⊥) × (total′ ≡ total))
+
+  -- the User IDs after it
+  abbrev pub UsersAfter : List (List ℕ) → Type 0
+  UsersAfter users′ =
+      ((numberLines ≤ k) × (users′ ≡ set users (k - numberLines) (putAt (getD users (k - numberLines) []) 0 (take (e - a) (drop a t))))) ⊎ ((k < numberLines) × (users′ ≡ users))
+
+  total-after : (total′ : ℕ) → TotalAfter total′ → total′ ≡ numberLines + seatsIn (numbersIn (i .before ++ (entryIn (rowAt k) (drop at t) ∷ [])))
+  unfolding numberLines table JudgedIs
+  total-after total′ w =
+      ⊎-elim
+      (λ u. u .1 ∙ ap (λ (x : ℕ). numberLines + x) (j .1) ∙ total-seats i h (u .0))
+      (λ u. u .1 ∙ total-other i h (u .0))
+      w
+
+  users-after : (users′ : List (List ℕ)) → UsersAfter users′ → users′ ≡ usersOf (i .before ++ (entryIn (rowAt k) (drop at t) ∷ []))
+  unfolding numberLines table JudgedIs
+  users-after users′ w =
+      ⊎-elim
+      (λ u.
+      u .1
+      ∙ ap (λ (row : List ℕ). set users (k - numberLines) row) (sym (over-putAt (take (e - a) (drop a t)) (getD users (k - numberLines) []) (name-fits (u .0))))
+      ∙ ap (λ (name : List ℕ). set users (k - numberLines) (over name (getD users (k - numberLines) []))) (j .2 .octets)
+      ∙ users-next i h (u .0))
+      (λ u. u .1 ∙ users-same i h (u .0))
+      w
+
+  -- what the pass holds after a turn
+  pub scanned-turn : (users′ : List (List ℕ)) (total′ : ℕ) → UsersAfter users′ → TotalAfter total′ → Scanned t (set numbers k n) users′ total′ (e + 1) (k + 1)
+  unfolding JudgedIs
+  scanned-turn users′ total′ u w =
+      subst (λ (x : ℕ). Scanned t (set numbers k x) users′ total′ (e + 1) (k + 1)) (sym (j .1))
+      (scanned-more i h (j .0) users′ total′ (e + 1) (users-after users′ u) (total-after total′ w) (j .3) (let l = j .2 .within in omega arith))
 
 -- ---- what the pass gives
 

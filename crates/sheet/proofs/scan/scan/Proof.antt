@@ -14,7 +14,7 @@ use Rattle.sheet.specs.Table.{table, numberLines, mostSeats}
 use Rattle.sheet.specs.Value.{noRefusal, readingOf}
 use Rattle.sheet.specs.Inner.{JudgedIs}
 use Rattle.sheet.proofs.Laws.Judgement.{judged-cap}
-use Rattle.sheet.proofs.Laws.Scanned.{Scanned, scanned-none, scanned-room, scanned-refused, scanned-reading, scanned-users, scanned-turn, name-fits}
+use Rattle.sheet.proofs.Laws.Scanned.{Scanned, scanned-none, scanned-room, scanned-refused, scanned-reading, scanned-users, scanned-turn}
 use Rattle.sheet.proofs.scan.scan.Statement.{statement}
 use Rattle.sheet.proofs.scan.scan.Tie as tie
 
@@ -102,29 +102,26 @@ add-lines c =
     let a = turn f .before .loop in
     omega (arith, judged-cap (now (turn f .before .before .before .args .text)) (a .at) (a .k) (a .numbers) (a .users) (number f) (from f) (end f) (judged-good f))
 
-mul-keep : tie.Need-mul-keep Inv-loop μ-loop
-mul-keep c = omega (arith, room (turn (c .before .before)))
+mul-put-octets : tie.Need-mul-put-octets Inv-loop μ-loop
+mul-put-octets c = omega (arith, room (turn (c .before .before)))
 
-index-1-keep : tie.Need-index-1-keep Inv-loop μ-loop
-index-1-keep c = omega (arith, room (turn (c .before .before)))
+index-1-put-octets : tie.Need-index-1-put-octets Inv-loop μ-loop
+index-1-put-octets c = omega (arith, room (turn (c .before .before)))
 
-sub-keep : tie.Need-sub-keep Inv-loop μ-loop
+sub-put-octets : tie.Need-sub-put-octets Inv-loop μ-loop
 unfolding JudgedIs
-sub-keep c = judged-good (c .before .before .before) .2 .from
+sub-put-octets c = judged-good (c .before .before .before) .2 .from
 
-part-keep-start : tie.Need-part-keep-start Inv-loop μ-loop
+part-put-octets-start : tie.Need-part-put-octets-start Inv-loop μ-loop
 unfolding JudgedIs
-part-keep-start c = judged-good (c .before .before .before) .2 .from
+part-put-octets-start c = judged-good (c .before .before .before) .2 .from
 
-part-keep-end : tie.Need-part-keep-end Inv-loop μ-loop
+part-put-octets-end : tie.Need-part-put-octets-end Inv-loop μ-loop
 unfolding JudgedIs
-part-keep-end c = let h = judged-good (c .before .before .before) .2 .within in omega arith
+part-put-octets-end c = let h = judged-good (c .before .before .before) .2 .within in omega arith
 
-keep-requires : tie.Need-keep-requires Inv-loop μ-loop
-unfolding numberLines table
-keep-requires c κs =
-    let f = c .before .before .before .before in
-    name-fits (state (turn f)) (turn f .loop-test .taken) (number f) (from f) (end f) (judged-good f) (c .before .before .if2 .taken)
+put-octets-requires : tie.Need-put-octets-requires Inv-loop μ-loop
+put-octets-requires c κs = search needs
 
 add-at : tie.Need-add-at Inv-loop μ-loop
 unfolding JudgedIs
@@ -174,12 +171,12 @@ scan-spec =
     array-write-numbers
     add-if1
     add-lines
-    mul-keep
-    index-1-keep
-    sub-keep
-    part-keep-start
-    part-keep-end
-    keep-requires
+    mul-put-octets
+    index-1-put-octets
+    sub-put-octets
+    part-put-octets-start
+    part-put-octets-end
+    put-octets-requires
     add-at
     add-k
     loop-less

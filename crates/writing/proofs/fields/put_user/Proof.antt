@@ -41,8 +41,7 @@ add-put-octets : tie.Need-add-put-octets
 add-put-octets c = search needs
 
 put-octets-requires : tie.Need-put-octets-requires
-unfolding toWord
-put-octets-requires c κs = simp length-set (omega (arith, c .before .before .before .put-u32 .kept .0))
+put-octets-requires c κs = search needs
 
 add-result : tie.Need-add-result
 add-result c = search needs

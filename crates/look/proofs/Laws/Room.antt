@@ -1,0 +1,156 @@
+-- Laws of the room that a step and the end take: a refusal's line and the lines behind a sheet fit into what is asked for. Assumes nothing.
+use mathlib.Core.Path.{_≡_, refl, ap, _∙_}
+use mathlib.Core.Logic.{⊎-elim}
+use Prim.Native.Nat.{ℕ, _+_, _*_, _≤_, _<_}
+use native.Mathlib.Nat.{zero-add}
+use native.Mathlib.Omega.{arith}
+use mathlib.Core.Bool.{true, false}
+use mathlib.Core.List.{List, [], _++_}
+use lib.ListN.{length, drop, length-append, length-drop}
+use lib.Dec.{leb, eqb}
+use borrow.Author.Tests.{le-leb, lt-leb}
+use Rattle.octets.specs.Buffer.{putAt}
+use Rattle.octets.proofs.Choice.{le-or-lt, pick-cases}
+use Rattle.octets.proofs.Buffer.{over-putAt, put-both}
+use Rattle.octets.proofs.Text.{length-decimal}
+use Rattle.sheet.specs.Value.{noRefusal, readOf}
+use Rattle.sheet.proofs.Laws.Readings.{read-at}
+use Rattle.packet.specs.declared.Numbers.{Numbers}
+use Rattle.packet.specs.Kind.{numbersOf}
+use Rattle.writing.specs.Writing.{wrote, refusedWith, told, after}
+use Rattle.look.specs.declared.Phase.{Phase}
+use Rattle.look.specs.declared.Phase.the-variants.{Sheet, Lines, Refused}
+use Rattle.look.specs.declared.Look.{Look}
+use Rattle.look.specs.declared.Stepped.{Stepped}
+use Rattle.look.specs.Line.{numberLine}
+use Rattle.look.specs.Look.{sheetLine}
+use Rattle.look.specs.Steps.{mostHeld, heldIn, heldOf, State, Went, inSheet, inLines, refusedSheet, stateOf, lookAs, fed, decided, stepOf, roomAsked, noRoom, hasRoom, steppedOf, afterStep, lastText, endOf, endAs, leftFrom, linesText}
+use Rattle.look.specs.Inner.{WentTo}
+use Rattle.look.proofs.Laws.Fits.{lines-fit, last-fits}
+use Rattle.look.proofs.Laws.Steps.{held-none, kept-short, kept-held, step-held, step-decides, state-sheet, state-lines, state-refused}
+
+-- ---- a refusal's line
+
+-- it is no longer than the line that it names, and some
+pub sheetLine-length : (n : ℕ) → length (sheetLine n) ≤ n + 8
+unfolding sheetLine numberLine
+sheetLine-length n = simp length-append (omega (arith, length-decimal n))
+
+-- ---- what a piece prints, and what is held behind it
+
+-- lines
+pub fed-room : (n : Numbers) (line s : List ℕ)
+    → length (fed n line s .text) + 10 * length (heldIn (lookAs (fed n line s .to) .held)) ≤ 10 * (length line + length s)
+unfolding fed lookAs linesText
+fed-room n line s = rw (kept-held (leftFrom line s)) (omega (arith, lines-fit n line s, kept-short (leftFrom line s)))
+
+-- a sheet that is decided
+pub decided-room : (t : List ℕ) (m : ℕ) → length t ≤ m → mostHeld ≤ m
+    → length (decided t .text) + 10 * (length (heldIn (lookAs (decided t .to) .held)) + 1) ≤ 10 * (m + 1)
+unfolding decided
+decided-room t m h l =
+    let r = readOf t in
+    let n = numbersOf (r .sheet) in
+    let s = drop (r .used) t in
+    let P : Went → Type 0 = λ w. length (w .text) + 10 * (length (heldIn (lookAs (w .to) .held)) + 1) ≤ 10 * (m + 1) in
+    pick-cases P (eqb (r .refusal .number) 0) (fed n [] s) (record { to = refusedSheet; text = sheetLine (r .refusal .at) })
+    (λ _. omega (arith, fed-room n [] s, length-drop (r .used) t))
+    (λ _. unfold lookAs in rw (held-none (heldOf []) refl) (omega (arith, sheetLine-length (r .refusal .at), read-at t)))
+
+-- a piece of the sheet
+pub sheet-fits : (t piece : List ℕ) → length t ≤ mostHeld → length (stepOf (inSheet t) piece .text) ≤ roomAsked (length piece)
+sheet-fits t piece h =
+    ⊎-elim
+    (λ (l : mostHeld ≤ length t + length piece).
+    rw (step-decides t piece l) (omega (arith, decided-room (t ++ piece) (length piece + mostHeld) (rw length-append (omega arith)) (omega arith))))
+    (λ (l : length t + length piece < mostHeld). rw (step-held t piece l) (omega arith))
+    (le-or-lt mostHeld (length t + length piece))
+
+-- a piece behind it
+pub lines-step-fits : (n : Numbers) (line piece : List ℕ) → length line ≤ mostHeld → length (stepOf (inLines n line) piece .text) ≤ roomAsked (length piece)
+unfolding stepOf
+lines-step-fits n line piece h = omega (arith, fed-room n line piece)
+
+-- ---- what is kept of a sheet that is decided is what it is
+
+pub decided-back : (t : List ℕ) → stateOf (lookAs (decided t .to)) ≡ decided t .to
+unfolding decided
+decided-back t =
+    let r = readOf t in
+    pick-cases (λ (w : Went). stateOf (lookAs (w .to)) ≡ w .to) (eqb (r .refusal .number) 0)
+    (fed (numbersOf (r .sheet)) [] (drop (r .used) t)) (record { to = refusedSheet; text = sheetLine (r .refusal .at) })
+    (λ _. unfold fed lookAs stateOf in rw kept-held) (λ _. unfold lookAs stateOf in refl)
+
+-- ---- a step
+
+module _ (look : Look) (piece out : List ℕ) where
+  -- without room nothing is taken
+  pub step-none : leb (roomAsked (length piece)) (length out) ≡ false
+      → (_≡_ {A = Stepped} (record { look = look; written = 0; refusal = noRoom }) (steppedOf look piece out)) × (out ≡ afterStep look piece out)
+  unfolding steppedOf afterStep hasRoom
+  step-none e = (rw e, rw e)
+
+  -- with room the text is put into the front
+  pub step-done : leb (roomAsked (length piece)) (length out) ≡ true → (to : Look) (end : ℕ) (now : List ℕ)
+      → WentTo (stepOf (stateOf look) piece) out 0 to end now → length (stepOf (stateOf look) piece .text) ≤ length out
+      → (_≡_ {A = Stepped} (record { look = to; written = end; refusal = noRefusal }) (steppedOf look piece out)) × (now ≡ afterStep look piece out)
+  unfolding steppedOf afterStep hasRoom
+  step-done e to end now w fits =
+      (rw (e, w .kept, w .past, zero-add), rw (e, over-putAt (stepOf (stateOf look) piece .text) out fits) (w .put))
+
+-- ---- the end
+
+module _ (look : Look) where
+  -- what is kept, by the phase
+  by-phase : (P : State → Type 0) → (look .phase ≡ Sheet → P (inSheet (heldIn (look .held))))
+      → (look .phase ≡ Lines → P (inLines (look .numbers) (heldIn (look .held)))) → (look .phase ≡ Refused → P refusedSheet) → P (stateOf look)
+  by-phase P f g h = at (look .phase) refl
+    where
+      at : (p : Phase) → look .phase ≡ p → P (stateOf look)
+      at Sheet e = rw (state-sheet look e) (f e)
+      at Lines e = rw (state-lines look e) (g e)
+      at Refused e = rw (state-refused look e) (h e)
+
+  -- behind a sheet there is but the last line left
+  pub end-behind : (look .phase ≡ Sheet → ⊥) → endOf (stateOf look) ≡ lastText (stateOf look)
+  unfolding endOf lastText
+  end-behind h = by-phase (λ (s : State). endOf s ≡ lastText s) (λ e. absurd (h e)) (λ _. refl) (λ _. refl)
+
+  -- the last line takes ten octets for each that is held and its LF
+  pub last-room : length (lastText (stateOf look)) ≤ 10 * (length (heldIn (look .held)) + 1)
+  unfolding lastText
+  last-room =
+      by-phase (λ (s : State). length (lastText s) ≤ 10 * (length (heldIn (look .held)) + 1))
+      (λ _. omega arith) (λ _. last-fits (look .numbers) (heldIn (look .held))) (λ _. omega arith)
+
+  module _ (out : List ℕ) where
+    -- without room nothing is printed
+    pub end-none : length out < roomAsked 0 → (refusedWith 11 0 ≡ told (endAs look (length out))) × (out ≡ after (endAs look (length out)) out)
+    unfolding endAs told after
+    end-none h = let e = lt-leb (roomAsked 0) (length out) h in (rw e, rw e)
+
+    -- with room the text is put into the front
+    pub end-done : roomAsked 0 ≤ length out → (end : ℕ) (now : List ℕ) → end ≡ 0 + length (endOf (stateOf look)) → now ≡ putAt out 0 (endOf (stateOf look))
+        → length (endOf (stateOf look)) ≤ length out → (wrote end ≡ told (endAs look (length out))) × (now ≡ after (endAs look (length out)) out)
+    unfolding endAs told after
+    end-done h end now i p fits =
+        let e = le-leb (roomAsked 0) (length out) h in
+        (rw (e, i, zero-add), rw (e, over-putAt (endOf (stateOf look)) out fits) p)
+
+-- a sheet that is decided only now
+module _ (t : List ℕ) (h : length t ≤ mostHeld) (out : List ℕ) (room : roomAsked 0 ≤ length out) (look : Look) (end : ℕ) (mid : List ℕ)
+    (w : WentTo (decided t) out 0 look end mid) where
+  -- there is room for the last line
+  pub decided-leaves : end + 10 * (length (heldIn (look .held)) + 1) ≤ length out
+  decided-leaves = rw (w .kept) (omega (arith, w .past, decided-room t mostHeld h (omega arith)))
+
+  -- it is printed behind the others
+  pub decided-end : (past : ℕ) (now : List ℕ) → now ≡ putAt mid end (lastText (stateOf look)) → past ≡ end + length (lastText (stateOf look))
+      → (past ≡ 0 + length (endOf (inSheet t))) × (now ≡ putAt out 0 (endOf (inSheet t))) × (length (endOf (inSheet t)) ≤ length out)
+  unfolding endOf
+  decided-end past now p q =
+      let last = lastText (decided t .to) in
+      let s : stateOf look ≡ decided t .to = ap stateOf (w .kept) ∙ decided-back t in
+      let fits : end + length last ≤ length out = rw (← s) (omega (arith, last-room look, decided-leaves)) in
+      let both = put-both out 0 (decided t .text) last mid end now past (w .put) (w .past) (rw s at p) (rw s at q) fits in
+      (both .1, both .0, rw length-append (omega (arith, fits, w .past)))

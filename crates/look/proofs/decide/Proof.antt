@@ -1,0 +1,199 @@
+-- `look::decide` meets its contract: the sheet read from what is held is that of all that came, and what stands behind it in what is held
+-- and the rest of the piece are two pieces. Assumes nothing.
+use mathlib.Core.Path.{_≡_, sym, ap, _∙_}
+use mathlib.Core.List.{[]}
+use Prim.Native.Nat.{_+_, _-_, _*_, _≤_}
+use borrow.Author.Needs.{needs}
+use native.Mathlib.Omega.{arith}
+use lib.ListN.{length, take, drop, length-drop}
+use lib.Seq.{length-take-le, take-all}
+use Rattle.octets.specs.Buffer.{putAt}
+use Rattle.octets.proofs.Buffer.{length-putAt}
+use Rattle.sheet.specs.Value.{readOf}
+use Rattle.packet.specs.Kind.{numbersOf}
+use Rattle.look.specs.Line.{numberLine}
+use Rattle.look.specs.Look.{sheetLine}
+use Rattle.look.specs.Steps.{heldIn, heldOf, keptOf, leftFrom, linesText}
+use Rattle.look.proofs.Laws.Pieces.{used-within}
+use Rattle.look.proofs.Laws.Steps.{held-within, held-most, held-all, held-none, decided-refused, decided-read, second-fits, went-both}
+use Rattle.sheet.proofs.Laws.Readings.{read-at}
+use Rattle.look.proofs.Laws.Room.{sheetLine-length}
+use Rattle.look.proofs.decide.Statement.{statement}
+use Rattle.look.proofs.decide.Tie as tie
+
+-- what is held is the text
+text : (c : tie.After-length-of)
+    → let h = c .before .before .before .before .args .held in take (c .length-of .result) (h .octets) ≡ heldIn h
+text c = held-all (c .before .before .before .before .args .held) (c .length-of .result) (c .length-of .ensures)
+
+-- the sheet is read from it
+sheet : (c : tie.After-read) → c .read .result ≡ readOf (heldIn (c .before .before .before .before .before .before .args .held))
+sheet c = c .read .ensures ∙ ap readOf (text (c .before .before))
+
+-- no more is held than decides it
+most : (c : tie.Start) → length (heldIn (c .args .held)) ≤ 1024
+most c = held-most (c .args .held) (search needs)
+
+-- its lines lie within
+within : (c : tie.After-read)
+    → let h = c .before .before .before .before .before .before .args .held in c .read .result .used ≤ length (take (c .before .before .length-of .result) (h .octets))
+within c = rw (text (c .before .before), sheet c) (used-within _)
+
+-- what stands behind the sheet
+behind : (c : tie.After-read)
+    → let h = c .before .before .before .before .before .before .args .held in
+    let s = take (c .before .before .length-of .result) (h .octets) in
+    let used = c .read .result .used in
+    take (length s - used) (drop used s) ≡ drop (readOf (heldIn h) .used) (heldIn h)
+behind c =
+    let s = take (c .before .before .length-of .result) (c .before .before .before .before .before .before .args .held .octets) in
+    let used = c .read .result .used in
+    take-all (length s - used) (drop used s) (omega (arith, length-drop used s)) ∙ rw (text (c .before .before), sheet c)
+
+-- there is room for it and for the rest
+room : (c : tie.After-read)
+    → let a = c .before .before .before .before .before .before .args in
+    0 + 10 * (0 + length (drop (readOf (heldIn (a .held)) .used) (heldIn (a .held))) + length (a .rest .now)) ≤ length (a .out .now)
+room c =
+    let start = c .before .before .before .before .before .before in
+    rw length-drop (omega (arith, most start, start .pre .1))
+
+length-of-requires : tie.Need-length-of-requires
+length-of-requires c κs = search needs
+
+array-share-prefix-octets : tie.Need-array-share-prefix-octets
+array-share-prefix-octets c = omega (arith, held-within (c .before .before .before .before .args .held))
+
+slice-aggregate-text : tie.Need-slice-aggregate-text
+slice-aggregate-text c =
+    let h = c .before .before .before .before .before .args .held in
+    sym (length-take-le _ (h .octets) (omega (arith, held-within h)))
+
+read-requires : tie.Need-read-requires
+read-requires c κs = search needs
+
+slice-aggregate-put-line : tie.Need-slice-aggregate-put-line
+slice-aggregate-put-line c = search needs
+
+put-line-requires : tie.Need-put-line-requires
+unfolding sheetLine numberLine
+put-line-requires c κs =
+    let read = c .before .before .before .before .before in
+    let start = read .before .before .before .before .before .before in
+    let n = read .read .result .refusal .at in
+    let small : n ≤ length (heldIn (start .args .held)) + 1 = rw (sheet read) (read-at (heldIn (start .args .held))) in
+    omega (arith, sheetLine-length n, most start, start .pre .1)
+
+refused-requires : tie.Need-refused-requires
+refused-requires c κs = search needs
+
+same-length : tie.Need-same-length
+same-length c = search needs
+
+-- the refusal is printed
+printed : (c : tie.After-put-line)
+    → let read = c .before .before .before .before .before .before in
+    let a = read .before .before .before .before .before .before .args in
+    let line = sheetLine (readOf (heldIn (a .held)) .refusal .at) in
+    (c .put-line .last .0 ≡ putAt (a .out .now) 0 line) × (c .put-line .result ≡ 0 + length line)
+unfolding sheetLine numberLine
+printed c = rw (← sheet (c .before .before .before .before .before .before)) (c .put-line .ensures)
+
+returns : tie.Need-returns
+returns c =
+    let put = c .before .before .before in
+    let then1 = put .before .before .before in
+    let read = then1 .before .before .before in
+    let start = read .before .before .before .before .before .before in
+    let a = start .args in
+    rw (decided-refused (heldIn (a .held)) (a .rest .now) (start .pre .0) (rw (sheet read) at (then1 .if1 .taken)))
+    (record { kept = c .refused .ensures; past = printed put .1; put = printed put .0 })
+
+numbers-of-requires : tie.Need-numbers-of-requires
+numbers-of-requires c κs = search needs
+
+none-requires : tie.Need-none-requires
+none-requires c κs = search needs
+
+sub-put-lines : tie.Need-sub-put-lines
+sub-put-lines c = within (c .before .before .before .before .before .before)
+
+part-put-lines-start : tie.Need-part-put-lines-start
+part-put-lines-start c = within (c .before .before .before .before .before .before)
+
+part-put-lines-end : tie.Need-part-put-lines-end
+part-put-lines-end c = search needs
+
+put-lines-requires : tie.Need-put-lines-requires
+put-lines-requires c κs =
+    let read = c .before .before .before .before .before .before .before in
+    rw (held-none (c .before .none .result) (c .before .none .ensures), behind read) (omega (arith, room read))
+
+-- the lines behind the sheet are printed, and the last of them is held
+lines : (c : tie.After-put-lines)
+    → let read = c .before .before .before .before .before .before .before .before in
+    let a = read .before .before .before .before .before .before .args in
+    let r = readOf (heldIn (a .held)) in
+    let n = numbersOf (r .sheet) in
+    let s = drop (r .used) (heldIn (a .held)) in
+    (c .put-lines .last .0 ≡ putAt (a .out .now) 0 (linesText n [] s))
+    × (c .put-lines .result .end ≡ 0 + length (linesText n [] s))
+    × (c .put-lines .result .held ≡ heldOf (keptOf (leftFrom [] s)))
+lines c =
+    let none = c .before .before in
+    let numbers = none .before .before in
+    let read = numbers .before .before .before .before in
+    rw (held-none (none .none .result) (none .none .ensures), behind read, numbers .numbers-of .ensures, sheet read) at (c .put-lines .ensures)
+
+in-lines-requires : tie.Need-in-lines-requires
+in-lines-requires c κs =
+    let put = c .before .before .before in
+    let read = put .before .before .before .before .before .before .before .before in
+    let a = read .before .before .before .before .before .before .args in
+    let r = readOf (heldIn (a .held)) in
+    let l : length (put .put-lines .last .0) ≡ length (a .out .now) = ap length (lines put .0) ∙ length-putAt _ _ _ in
+    rw l
+    (second-fits (numbersOf (r .sheet)) [] (drop (r .used) (heldIn (a .held))) (a .rest .now) (a .out .now) 0 (room read)
+    (put .put-lines .result .end) (lines put .1) (put .put-lines .result .held) (lines put .2))
+
+same-length-2 : tie.Need-same-length-2
+same-length-2 c = search needs
+
+returns-2 : tie.Need-returns-2
+returns-2 c =
+    let went = c .before .before in
+    let put = went .before .before .before .before in
+    let numbers = put .before .before .before .before in
+    let read = numbers .before .before .before .before in
+    let start = read .before .before .before .before .before .before in
+    let a = start .args in
+    let r = readOf (heldIn (a .held)) in
+    let n : numbers .numbers-of .result ≡ numbersOf (r .sheet) = numbers .numbers-of .ensures ∙ rw (sheet read) in
+    rw (decided-read (heldIn (a .held)) (a .rest .now) (start .pre .0) (rw (sheet read) at (numbers .before .if1 .left)))
+    (went-both (numbersOf (r .sheet)) [] (drop (r .used) (heldIn (a .held))) (a .rest .now) (a .out .now) 0 (room read)
+    (put .put-lines .result .end) (lines put .1) (put .put-lines .result .held) (lines put .2)
+    (put .put-lines .last .0) (went .in-lines .result .look) (went .in-lines .result .end) (went .in-lines .last .0)
+    (lines put .0) (rw n at (went .in-lines .ensures)))
+
+pub decide-spec : {M : Type 1} → statement M
+decide-spec =
+    tie.close
+    (tie.spec
+    length-of-requires
+    array-share-prefix-octets
+    slice-aggregate-text
+    read-requires
+    slice-aggregate-put-line
+    put-line-requires
+    refused-requires
+    same-length
+    returns
+    numbers-of-requires
+    none-requires
+    sub-put-lines
+    part-put-lines-start
+    part-put-lines-end
+    put-lines-requires
+    in-lines-requires
+    same-length-2
+    returns-2)

@@ -1,0 +1,176 @@
+-- `look::lines::put_lines` meets its contract: the first line is what is held and the piece up to its LF, and the others lie behind that;
+-- where there is no LF, the line goes on. Assumes nothing.
+use mathlib.Core.Path.{_≡_, sym, ap, _∙_}
+use Prim.Native.Nat.{_+_, _-_, _*_, _≤_, _<_}
+use borrow.Author.Needs.{needs}
+use native.Mathlib.Nat.{zero-add}
+use native.Mathlib.Omega.{arith}
+use mathlib.Core.List.{_++_}
+use lib.ListN.{length, take, drop, length-drop}
+use lib.Seq.{length-take-le, take-all}
+use Rattle.octets.specs.Choice.{front}
+use Rattle.octets.specs.Buffer.{putAt}
+use Rattle.octets.proofs.Buffer.{putAt-nil, length-putAt}
+use Rattle.octets.proofs.Choice.{length-front-le}
+use Rattle.look.specs.Steps.{heldIn, heldOf, keptOf}
+use Rattle.look.specs.Line.{lineBy}
+use Rattle.look.specs.Lines.{inLine}
+use Rattle.look.proofs.Laws.Steps.{held-none, kept-within, kept-prints, lines-none, left-all, left-behind, first-fits, first-put}
+use Rattle.look.proofs.lines.put_lines.Statement.{statement}
+use Rattle.look.proofs.lines.put_lines.Tie as tie
+
+-- where the first line ends
+ends : (c : tie.After-line-end) → c .line-end .result ≡ length (front inLine (c .before .before .before .args .piece .now))
+ends c = c .line-end .ensures ∙ zero-add _
+
+-- that is within the piece
+within : (c : tie.After-line-end) → c .line-end .result ≤ length (c .before .before .before .args .piece .now)
+within c = omega (arith, ends c, length-front-le inLine (c .before .before .before .args .piece .now))
+
+-- the first line is held
+held : (c : tie.After-with)
+    → let a = c .before .before .before .before .before .args in
+    c .with .result ≡ heldOf (keptOf (heldIn (a .held) ++ take (c .before .before .line-end .result) (a .piece .now)))
+unfolding keptOf
+held c = c .with .ensures
+
+-- where the piece goes on, the line ended
+more : (c : tie.Else1) → c .before .before .before .line-end .result < length (c .before .before .before .before .before .before .args .piece .now)
+more c = omega (arith, within (c .before .before .before), c .if1 .left)
+
+room : (c : tie.Else1)
+    → let a = c .before .before .before .before .before .before .args in
+    let to = c .before .before .before .line-end .result in
+    a .at + length (lineBy (a .numbers) (heldIn (a .held) ++ take to (a .piece .now))) + 10 * (length (a .piece .now) - (to + 1)) ≤ length (a .out .now)
+room c =
+    let ended = c .before .before .before in
+    let start = ended .before .before .before in
+    let a = start .args in
+    first-fits (a .numbers) (heldIn (a .held)) (a .piece .now) (ended .line-end .result) (ends ended) (a .out .now) (a .at) (start .pre) (more c)
+
+-- the first line is printed
+printed : (c : tie.After-put)
+    → let else1 = c .before .before .before .before in
+    let a = else1 .before .before .before .before .before .before .args in
+    let line = heldIn (a .held) ++ take (else1 .before .before .before .line-end .result) (a .piece .now) in
+    (c .put .last .0 ≡ putAt (a .out .now) (a .at) (lineBy (a .numbers) line)) × (c .put .result ≡ a .at + length (lineBy (a .numbers) line))
+printed c =
+    let with = c .before .before .before .before .before in
+    let a = with .before .before .before .before .before .args in
+    let e = kept-prints (a .numbers) (with .with .result) _ (held with) in
+    (rw e at (c .put .ensures .0), rw e at (c .put .ensures .1))
+
+line-end-requires : tie.Need-line-end-requires
+line-end-requires c κs = search needs
+
+slice-aggregate-with : tie.Need-slice-aggregate-with
+slice-aggregate-with c = sym (length-take-le _ _ (within (c .before)))
+
+with-requires : tie.Need-with-requires
+with-requires c κs = search needs
+
+returns : tie.Need-returns
+returns c =
+    let start = c .before .before .before .before .before .before in
+    let a = start .args in
+    let ended = c .before .before .before in
+    let to = ended .line-end .result in
+    let all : length (a .piece .now) ≤ to = omega (arith, c .if1 .taken) in (
+      rw (lines-none (heldIn (a .held)) (a .piece .now) to (ends ended) all (a .numbers)) (sym (putAt-nil _ _)),
+      rw (lines-none (heldIn (a .held)) (a .piece .now) to (ends ended) all (a .numbers)) (omega arith),
+      rw (left-all (heldIn (a .held)) (a .piece .now) to (ends ended) all) (rw (take-all to (a .piece .now) all) at (held (c .before))),
+    )
+
+array-share-prefix-octets : tie.Need-array-share-prefix-octets
+array-share-prefix-octets c = kept-within _ _ (held (c .before .before .before))
+
+slice-aggregate-put : tie.Need-slice-aggregate-put
+slice-aggregate-put c = sym (length-take-le _ _ (kept-within _ _ (held (c .before .before .before .before))))
+
+put-requires : tie.Need-put-requires
+put-requires c κs =
+    let else1 = c .before .before .before in
+    let with = else1 .before in
+    rw (kept-prints _ (with .with .result) _ (held with)) (omega (arith, room else1))
+
+add-put-ended : tie.Need-add-put-ended
+add-put-ended c = omega (arith, more (c .before .before .before .before .before .before .before))
+
+put-ended-requires : tie.Need-put-ended-requires
+put-ended-requires c κs =
+    let put = c .before .before .before in
+    let else1 = put .before .before .before .before in
+    let a = else1 .before .before .before .before .before .before .args in
+    let l : length (put .put .last .0) ≡ length (a .out .now) = ap length (printed put .0) ∙ length-putAt _ _ _ in
+    (omega (arith, more else1), rw (length-drop, l) (omega (arith, room else1, printed put .1)))
+
+none-requires : tie.Need-none-requires
+none-requires c κs = search needs
+
+sub-with : tie.Need-sub-with
+sub-with c = search needs
+
+part-with-start : tie.Need-part-with-start
+part-with-start c = search needs
+
+part-with-end : tie.Need-part-with-end
+part-with-end c = search needs
+
+with-requires-2 : tie.Need-with-requires-2
+with-requires-2 c κs = search needs
+
+same-length : tie.Need-same-length
+same-length c = search needs
+
+-- what stands behind the last LF is held
+kept : (c : tie.After-with2)
+    → let ended = c .before .before .before .before .before in
+    c .with2 .result
+    ≡ heldOf (keptOf (drop (ended .put-ended .result .left) (ended .before .before .before .before .before .before .before .before .before .before .before .before .before .before .args .piece .now)))
+unfolding keptOf
+kept c =
+    let none = c .before .before in
+    let ended = none .before .before .before in
+    let piece = ended .before .before .before .before .before .before .before .before .before .before .before .before .before .before .args .piece .now in
+    let left = ended .put-ended .result .left in
+    let e : take (length piece - left) (drop left piece) ≡ drop left piece = take-all (length piece - left) (drop left piece) (omega (arith, length-drop left piece)) in
+    c .with2 .ensures ∙ rw (held-none (none .none .result) (none .none .ensures), e)
+
+returns-2 : tie.Need-returns-2
+returns-2 c =
+    let none = c .before .before in
+    let ended = none .before .before .before in
+    let put = ended .before .before .before .before in
+    let else1 = put .before .before .before .before in
+    let found = else1 .before .before .before in
+    let start = found .before .before .before in
+    let a = start .args in
+    let piece = a .piece .now in
+    let to = found .line-end .result in
+    let texts =
+    first-put (a .numbers) (heldIn (a .held)) piece to (ends found) (a .out .now) (a .at) (start .pre) (more else1)
+    (put .put .last .0) (put .put .result) (ended .put-ended .last .0) (ended .put-ended .result .end) (printed put .0) (printed put .1)
+    (ended .put-ended .ensures .0) (ended .put-ended .ensures .1) in
+    let left = ended .put-ended .ensures .3 ∙ sym (left-behind (heldIn (a .held)) piece to (ends found) (more else1)) in
+    (texts .0, texts .1, rw left at (kept c))
+
+pub put-lines-spec : {M : Type 1} → statement M
+put-lines-spec =
+    tie.close
+    (tie.spec
+    line-end-requires
+    slice-aggregate-with
+    with-requires
+    returns
+    array-share-prefix-octets
+    slice-aggregate-put
+    put-requires
+    add-put-ended
+    put-ended-requires
+    none-requires
+    sub-with
+    part-with-start
+    part-with-end
+    with-requires-2
+    same-length
+    returns-2)

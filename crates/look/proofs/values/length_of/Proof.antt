@@ -1,0 +1,73 @@
+-- `look::values::length_of` meets its contract. The invariant: the sum, without the names that are still to come, is the length of the
+-- first k values' text. Assumes nothing.
+use mathlib.Core.Path.{_≡_}
+use Prim.Native.Nat.{_+_, _-_, _*_, _≤_}
+use native.Mathlib.Omega.{arith}
+use borrow.Author.Needs.{needs}
+use lib.ListN.{length}
+use Rattle.look.proofs.Laws.Values.{valuesTo, namesTo, valuesTo-none, namesTo-none, valuesTo-ten, namesTo-ten, length-valuesTo-next, namesTo-next}
+use Rattle.look.proofs.values.length_of.Statement.{statement}
+use Rattle.look.proofs.values.length_of.Tie as tie
+
+abbrev Inv-loop : tie.InvT-loop
+Inv-loop packet ten length₀ k₀ sum k =
+    (k ≤ 10) × (sum + namesTo k ≡ 70 + length (valuesTo packet ten k)) × (sum ≤ 70 + k * 4294967295)
+
+abbrev μ-loop : tie.MeasureT-loop
+μ-loop packet ten length₀ k₀ sum k = 10 - k
+
+loop-holds : tie.Need-loop-holds Inv-loop μ-loop
+loop-holds c =
+    let a = valuesTo-none (c .before .args .packet .now) (c .before .args .t1) in
+    (omega arith, rw (a, namesTo-none), omega arith)
+
+mul-value-length : tie.Need-mul-value-length Inv-loop μ-loop
+mul-value-length c = search needs
+
+array-copy-out-value-length : tie.Need-array-copy-out-value-length Inv-loop μ-loop
+array-copy-out-value-length c = search needs
+
+value-length-requires : tie.Need-value-length-requires Inv-loop μ-loop
+value-length-requires c κs = search needs
+
+add-length : tie.Need-add-length Inv-loop μ-loop
+add-length c = omega arith
+
+add-k : tie.Need-add-k Inv-loop μ-loop
+add-k c = search needs
+
+loop-less : tie.Need-loop-less Inv-loop μ-loop
+loop-less c = search needs
+
+loop-again : tie.Need-loop-again Inv-loop μ-loop
+loop-again c =
+    let at-loop = c .before .before .before in
+    let args = at-loop .before .before .args in
+    let k = at-loop .loop .k in
+    let n : length (args .t1) ≡ 10 = omega arith in
+    let names = namesTo-next k (omega arith) in
+    let texts = length-valuesTo-next (args .packet .now) (args .t1) k (omega arith) n in
+    (omega arith, omega arith, omega arith)
+
+returns : tie.Need-returns Inv-loop μ-loop
+returns c =
+    let args = c .before .before .before .args in
+    let e : c .before .loop .k ≡ 10 = omega arith in
+    let i = rw (e, namesTo-ten, valuesTo-ten) at (c .before .loop .inv .1) in
+    (omega arith, omega arith)
+
+pub length-of-spec : {M : Type 1} → statement M
+length-of-spec =
+    tie.close
+    (tie.spec
+    Inv-loop
+    μ-loop
+    loop-holds
+    mul-value-length
+    array-copy-out-value-length
+    value-length-requires
+    add-length
+    add-k
+    loop-less
+    loop-again
+    returns)

@@ -1,0 +1,7 @@
+pub mod Lines
+pub mod Line
+pub mod Look
+pub mod Steps
+pub mod Inner
+pub mod Promises
+pub mod Claims

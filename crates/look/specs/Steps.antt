@@ -1,0 +1,164 @@
+-- The same piece by piece: what is kept between two pieces of the input, and what each piece prints. That any pieces print what `lookOf`
+-- says of all of them is claimed in Claims.antt. Assumes nothing.
+use Prim.Native.Nat.{ℕ, _+_, _*_}
+use mathlib.Core.Bool.{Bool, true, false}
+use mathlib.Core.List.{List, [], _∷_, _++_, map, flatten}
+use lib.ListN.{length, take, drop}
+use lib.Dec.{leb, ltb, eqb}
+use Rattle.octets.specs.Choice.{pick}
+use Rattle.octets.specs.Buffer.{over, padded}
+use Rattle.sheet.specs.declared.Refusal.{Refusal}
+use Rattle.sheet.specs.Line.{lf}
+use Rattle.sheet.specs.Value.{noRefusal, readOf}
+use Rattle.packet.specs.declared.Numbers.{Numbers}
+use Rattle.packet.specs.Kind.{numbersOf}
+use Rattle.writing.specs.Writing.{Made, made, refused}
+use Rattle.look.specs.declared.held.Held.{Held}
+use Rattle.look.specs.declared.Phase.{Phase}
+use Rattle.look.specs.declared.Phase.the-variants.{Sheet, Lines, Refused}
+use Rattle.look.specs.declared.Look.{Look}
+use Rattle.look.specs.declared.Stepped.{Stepped}
+use Rattle.look.specs.Line.{mostDigits, lineBy}
+use Rattle.look.specs.Look.{sheetLine}
+
+-- ---- what is kept
+
+-- the text so far, of which the sheet is not yet read; or a sheet's numbers and the line so far; or, where the sheet was refused, nothing
+pub data State : Type 0 where
+  inSheet : List ℕ → State
+  inLines : Numbers → List ℕ → State
+  refusedSheet : State
+
+-- how many octets are held at most: as many as decide a sheet, and more than a packet's line has digits
+abbrev pub mostHeld : ℕ
+mostHeld = 1024
+
+-- a line so far, which one digit more than a packet's line has decides
+unfoldable pub keptOf : List ℕ → List ℕ
+keptOf line = take (mostDigits + 1) line
+
+-- ---- the lines in a piece
+
+-- the lines that an LF ends, where the first of them is begun already
+unfoldable pub endedFrom : List ℕ → List ℕ → List (List ℕ)
+endedFrom line [] = []
+endedFrom line (c ∷ t) = pick (eqb c lf) (line ∷ endedFrom [] t) (endedFrom (line ++ (c ∷ [])) t)
+
+-- what stands behind the last LF; where there is none, all of it behind the line begun
+unfoldable pub leftFrom : List ℕ → List ℕ → List ℕ
+leftFrom line [] = line
+leftFrom line (c ∷ t) = pick (eqb c lf) (leftFrom [] t) (leftFrom (line ++ (c ∷ [])) t)
+
+-- "A last line that is not empty counts"
+unfoldable pub lastOf : List ℕ → List (List ℕ)
+lastOf [] = []
+lastOf (c ∷ line) = (c ∷ line) ∷ []
+
+-- what is printed for the lines that end
+unfoldable pub linesText : Numbers → List ℕ → List ℕ → List ℕ
+linesText n line piece = flatten (map (lineBy n) (endedFrom line piece))
+
+-- ---- what is printed
+
+-- a state, and the text on the way to it
+pub record Went : Type 0 where
+  pub to : State
+  pub text : List ℕ
+
+-- the lines that end in a piece are printed
+unfoldable pub fed : Numbers → List ℕ → List ℕ → Went
+fed n line piece =
+    record { to = inLines n (keptOf (leftFrom line piece)); text = linesText n line piece }
+
+-- the sheet is read from the text so far, and what stands behind it is lines
+unfoldable pub decided : List ℕ → Went
+decided t =
+    let r = readOf t in
+    pick (eqb (r .refusal .number) 0)
+    (fed (numbersOf (r .sheet)) [] (drop (r .used) t))
+    (record { to = refusedSheet; text = sheetLine (r .refusal .at) })
+
+unfoldable pub stepOf : State → List ℕ → Went
+stepOf (inSheet t) piece =
+    pick (ltb (length t + length piece) mostHeld) (record { to = inSheet (t ++ piece); text = [] }) (decided (t ++ piece))
+stepOf (inLines n line) piece = fed n line piece
+stepOf refusedSheet piece = record { to = refusedSheet; text = [] }
+
+-- the last line, where one is begun
+unfoldable pub lastText : State → List ℕ
+lastText (inSheet t) = []
+lastText (inLines n line) = flatten (map (lineBy n) (lastOf line))
+lastText refusedSheet = []
+
+-- at the end of the input; a sheet that was not decided is now
+unfoldable pub endOf : State → List ℕ
+endOf (inSheet t) = let w = decided t in w .text ++ lastText (w .to)
+endOf (inLines n line) = lastText (inLines n line)
+endOf refusedSheet = []
+
+-- the sheet was refused: "and nothing more"
+unfoldable pub isRefused : State → Bool
+isRefused (inSheet t) = false
+isRefused (inLines n line) = false
+isRefused refusedSheet = true
+
+-- ---- the struct that keeps it
+
+unfoldable pub heldIn : Held → List ℕ
+heldIn h = take (h .len) (h .octets)
+
+unfoldable pub heldOf : List ℕ → Held
+heldOf xs = record { octets = padded mostHeld 0 xs; len = length xs }
+
+unfoldable pub stateOf : Look → State
+stateOf look = at (look .phase)
+  where
+    at : Phase → State
+    at Sheet = inSheet (heldIn (look .held))
+    at Lines = inLines (look .numbers) (heldIn (look .held))
+    at Refused = refusedSheet
+
+abbrev pub noNumbers : Numbers
+noNumbers =
+    record {
+      request = 0;
+      response = 0;
+      endrequest = 0;
+      endresponse = 0;
+      txend = 0;
+      txendresponse = 0;
+      ack = 0;
+      resultid = 0;
+    }
+
+unfoldable pub lookAs : State → Look
+lookAs (inSheet t) = record { phase = Sheet; numbers = noNumbers; held = heldOf t }
+lookAs (inLines n line) = record { phase = Lines; numbers = n; held = heldOf line }
+lookAs refusedSheet = record { phase = Refused; numbers = noNumbers; held = heldOf [] }
+
+-- ---- room
+
+-- 11, "output shorter than the packet", is asked beforehand: no octet of the input makes more than ten of the output
+abbrev pub roomAsked : ℕ → ℕ
+roomAsked octets = 10 * (octets + (mostHeld + 1))
+
+unfoldable pub hasRoom : List ℕ → List ℕ → Bool
+hasRoom piece out = leb (roomAsked (length piece)) (length out)
+
+abbrev pub noRoom : Refusal
+noRoom = record { number = 11; at = 0 }
+
+-- a piece is taken whole, or, where there is no room, not at all
+unfoldable pub steppedOf : Look → List ℕ → List ℕ → Stepped
+steppedOf look piece out =
+    let w = stepOf (stateOf look) piece in
+    pick (hasRoom piece out)
+    (record { look = lookAs (w .to); written = length (w .text); refusal = noRefusal })
+    (record { look = look; written = 0; refusal = noRoom })
+
+-- at the end likewise
+unfoldable pub endAs : Look → ℕ → Made
+endAs look room = pick (leb (roomAsked 0) room) (made (endOf (stateOf look))) (refused 11 0)
+
+unfoldable pub afterStep : Look → List ℕ → List ℕ → List ℕ
+afterStep look piece out = pick (hasRoom piece out) (over (stepOf (stateOf look) piece .text) out) out

@@ -1,0 +1,256 @@
+// What `mcvlook` prints (document 01, "Bench program"): a call sheet and then packets in hex, one a line, come in pieces; out goes a line of
+// text for each packet. What is kept between two pieces is a value, and has the same size whatever came.
+mod decimal;
+mod held;
+pub mod hex;
+mod line;
+mod lines;
+pub mod print;
+mod text;
+mod values;
+
+use held::Held;
+use held::MOST;
+use packet::Numbers;
+use sheet::Refusal;
+use writing::Writing;
+ghost use mathlib.Core.Path.{_≡_};
+ghost use mathlib.Core.Logic.{_⊎_};
+ghost use mathlib.Core.List.{[], _++_};
+ghost use Prim.Native.Nat.{_+_, _*_, _≤_};
+ghost use lib.Dec.{leb};
+ghost use lib.ListN.{length};
+ghost use Rattle.octets.specs.Buffer.{putAt};
+ghost use Rattle.look.specs.Steps.{inSheet, inLines, refusedSheet, stateOf, lookAs, fed, stepOf, lastText, decided, heldIn, roomAsked};
+ghost use Rattle.look.specs.Inner.{WentTo};
+ghost use Rattle.look.specs.Promises.{start≡, step≡, end≡, is-refused≡};
+
+// What the next piece goes on with: the sheet's text, lines, or nothing more, the sheet being refused.
+pub enum Phase {
+    Sheet,
+    Lines,
+    Refused,
+}
+
+// What is kept between two pieces: in the sheet its text so far, and then the sheet's numbers and the line so far.
+pub struct Look {
+    phase: Phase,
+    numbers: Numbers,
+    held: Held,
+}
+
+// What is kept then, and how many octets were printed; or 11 beside what was kept before.
+pub struct Stepped {
+    pub look: Look,
+    pub written: usize,
+    pub refusal: Refusal,
+}
+
+// What is kept then, and the place past what was printed.
+struct Went {
+    look: Look,
+    end: usize,
+}
+
+const NO_NUMBERS: Numbers = Numbers {
+    request: 0,
+    response: 0,
+    endrequest: 0,
+    endresponse: 0,
+    txend: 0,
+    txendresponse: 0,
+    ack: 0,
+    resultid: 0,
+};
+
+// An octet of the input makes at most so many of the output.
+const TIMES: usize = 10;
+
+// The room that the end of the input asks for, and a piece beside ten octets for each of its own.
+pub const ROOM: usize = TIMES * (MOST + 1);
+
+const NO_ROOM: Refusal = Refusal { number: 11, at: 0 };
+
+const NOT_REFUSED: Refusal = Refusal { number: 0, at: 0 };
+
+const LF: u8 = 10;
+
+const SHEET: [u8; 6] = *b"sheet=";
+
+// Whether a buffer of so many octets has room for what a piece of so many prints.
+fn has_room(out: usize, piece: usize) -> bool
+    ensures { λ r. ⌜ r ≡ leb (roomAsked piece) out ⌝ }
+{
+    let times = out / TIMES;
+    if times < MOST + 1 {
+        return false;
+    }
+    piece <= times - (MOST + 1)
+}
+
+// What is kept before the first piece.
+pub fn start() -> Look
+    ensures { λ r. ⌜ start≡ r ⌝ }
+{
+    Look {
+        phase: Phase::Sheet,
+        numbers: NO_NUMBERS,
+        held: held::none(),
+    }
+}
+
+// Nothing more is printed.
+fn refused() -> Look
+    ensures { λ r. ⌜ r ≡ lookAs refusedSheet ⌝ }
+{
+    Look {
+        phase: Phase::Refused,
+        numbers: NO_NUMBERS,
+        held: held::none(),
+    }
+}
+
+// Puts the lines that end in a piece, behind a sheet with these numbers.
+fn in_lines(out: &mut [u8], at: usize, numbers: Numbers, held: Held, piece: &[u8]) -> Went
+    requires { ⌜ at + 10 * (length (heldIn held) + length (now piece)) ≤ length (now out) ⌝ }
+    ensures { λ r. ⌜ WentTo (fed numbers (heldIn held) (now (piece .entry))) (now (out .entry)) at (r .look) (r .end) (now (out .exit)) ⌝ }
+{
+    let kept = lines::put_lines(out, at, numbers, held, piece);
+    let left = kept.held;
+    Went {
+        look: Look {
+            phase: Phase::Lines,
+            numbers,
+            held: left,
+        },
+        end: kept.end,
+    }
+}
+
+// Reads the sheet from what is held, and puts its refusal, or the lines that end behind it and in the rest of a piece.
+fn decide(out: &mut [u8], held: Held, rest: &[u8]) -> Went
+    requires { ⌜ ((length (heldIn held) ≡ 1024) ⊎ (now rest ≡ [])) × (roomAsked (length (now rest)) ≤ length (now out)) ⌝ }
+    ensures { λ r. ⌜ WentTo (decided (heldIn held ++ now (rest .entry))) (now (out .entry)) 0 (r .look) (r .end) (now (out .exit)) ⌝ }
+{
+    let octets = held.octets;
+    let len = held::length_of(held);
+    let text = &octets[..len];
+    let reading = sheet::read(text);
+    let refusal = reading.refusal;
+    if refusal.number != 0 {
+        let name = SHEET;
+        let end = decimal::put_line(out, 0, &name, refusal.at);
+        return Went {
+            look: refused(),
+            end,
+        };
+    }
+    let used = reading.used;
+    let numbers = packet::numbers_of(reading.sheet);
+    let kept = lines::put_lines(out, 0, numbers, held::none(), &text[used..]);
+    in_lines(out, kept.end, numbers, kept.held, rest)
+}
+
+// Holds a piece of the sheet, and decides the sheet once enough is held.
+fn in_sheet(out: &mut [u8], held: Held, piece: &[u8]) -> Went
+    requires { ⌜ roomAsked (length (now piece)) ≤ length (now out) ⌝ }
+    ensures { λ r. ⌜ WentTo (stepOf (inSheet (heldIn held)) (now (piece .entry))) (now (out .entry)) 0 (r .look) (r .end) (now (out .exit)) ⌝ }
+{
+    let room = MOST - held::length_of(held);
+    let more = held::with(held, piece, MOST);
+    if piece.len() < room {
+        return Went {
+            look: Look {
+                phase: Phase::Sheet,
+                numbers: NO_NUMBERS,
+                held: more,
+            },
+            end: 0,
+        };
+    }
+    decide(out, more, &piece[room..])
+}
+
+// Takes a piece of the input, and prints the lines that end in it: how many octets, and what is kept for the next piece; or 11, where the
+// buffer has not ROOM and ten octets for each of the piece.
+pub fn step(look: Look, piece: &[u8], out: &mut [u8]) -> Stepped
+    ensures { λ r. ⌜ step≡ look (now (piece .entry)) (now (out .entry)) r (now (out .exit)) ⌝ }
+{
+    if !has_room(out.len(), piece.len()) {
+        return Stepped {
+            look,
+            written: 0,
+            refusal: NO_ROOM,
+        };
+    }
+    let phase = look.phase;
+    let went = match phase {
+        Phase::Sheet => in_sheet(out, look.held, piece),
+        Phase::Lines => in_lines(out, 0, look.numbers, look.held, piece),
+        Phase::Refused => Went {
+            look: refused(),
+            end: 0,
+        },
+    };
+    let kept = went.look;
+    Stepped {
+        look: kept,
+        written: went.end,
+        refusal: NOT_REFUSED,
+    }
+}
+
+// Puts the last line, where one is begun, and gives the place past it.
+fn put_last(out: &mut [u8], at: usize, numbers: Numbers, held: Held) -> usize
+    requires { ⌜ at + 10 * (length (heldIn held) + 1) ≤ length (now out) ⌝ }
+    ensures { λ r. ⌜ (now (out .exit) ≡ putAt (now (out .entry)) at (lastText (inLines numbers (heldIn held))))
+        × (r ≡ at + length (lastText (inLines numbers (heldIn held)))) ⌝ }
+{
+    let octets = held.octets;
+    let len = held::length_of(held);
+    if len == 0 {
+        return at;
+    }
+    line::put(out, at, numbers, &octets[..len])
+}
+
+// Puts what is left at the end of the input, and gives the place past it.
+fn put_end(out: &mut [u8], at: usize, look: Look) -> usize
+    requires { ⌜ at + 10 * (length (heldIn (look .held)) + 1) ≤ length (now out) ⌝ }
+    ensures { λ r. ⌜ (now (out .exit) ≡ putAt (now (out .entry)) at (lastText (stateOf look))) × (r ≡ at + length (lastText (stateOf look))) ⌝ }
+{
+    let phase = look.phase;
+    match phase {
+        Phase::Sheet => at,
+        Phase::Lines => put_last(out, at, look.numbers, look.held),
+        Phase::Refused => at,
+    }
+}
+
+// Prints what is left at the end of the input: how many octets, or 11, where the buffer has not ROOM.
+pub fn end(look: Look, out: &mut [u8]) -> Writing
+    ensures { λ r. ⌜ end≡ look (now (out .entry)) r (now (out .exit)) ⌝ }
+{
+    if out.len() < ROOM {
+        return Writing::Refused(NO_ROOM);
+    }
+    let phase = look.phase;
+    let Phase::Sheet = phase else {
+        return Writing::Written(put_end(out, 0, look));
+    };
+    let nothing = [0u8; 0];
+    let went = decide(out, look.held, &nothing);
+    Writing::Written(put_end(out, went.end, went.look))
+}
+
+// Whether the sheet was refused, so that nothing more is printed, whatever comes.
+pub fn is_refused(look: Look) -> bool
+    ensures { λ r. ⌜ is-refused≡ look r ⌝ }
+{
+    let phase = look.phase;
+    match phase {
+        Phase::Sheet => false,
+        Phase::Lines => false,
+        Phase::Refused => true,
+    }
+}

@@ -1,0 +1,88 @@
+// The lines in a piece of the input (document 01, "Bench program").
+use super::LF;
+use super::held;
+use super::held::Held;
+use super::line;
+use packet::Numbers;
+ghost use mathlib.Core.Path.{_≡_};
+ghost use mathlib.Core.List.{[]};
+ghost use Prim.Native.Nat.{_+_, _*_, _≤_};
+ghost use lib.ListN.{length, drop};
+ghost use Rattle.octets.specs.Choice.{front};
+ghost use Rattle.octets.specs.Buffer.{putAt};
+ghost use Rattle.look.specs.Lines.{inLine};
+ghost use Rattle.look.specs.Steps.{heldIn, heldOf, keptOf, leftFrom, linesText};
+
+// One digit more than a packet has decides a line.
+const LINE: usize = 2 * super::hex::MOST + 1;
+
+// What is kept of a line that has not ended, and the place past what was printed.
+pub struct Kept {
+    pub held: Held,
+    pub end: usize,
+}
+
+// Where the line that begins at a place ends: at its LF, or where the piece does.
+fn line_end(piece: &[u8], from: usize) -> usize
+    ensures { λ r. ⌜ r ≡ from + length (front inLine (drop from (now (piece .entry)))) ⌝ }
+{
+    let mut i = from;
+    while i < piece.len() {
+        if piece[i] == LF {
+            return i;
+        }
+        i += 1;
+    }
+    i
+}
+
+// The place past what was printed, and where the line begins that has not ended.
+struct Ended {
+    end: usize,
+    left: usize,
+}
+
+// Puts the lines for those that end in a piece from a place on, one behind the other.
+fn put_ended(out: &mut [u8], at: usize, numbers: Numbers, piece: &[u8], from: usize) -> Ended
+    requires { ⌜ (from ≤ length (now piece)) × (at + 10 * length (drop from (now piece)) ≤ length (now out)) ⌝ }
+    ensures { λ r. ⌜ (now (out .exit) ≡ putAt (now (out .entry)) at (linesText numbers [] (drop from (now (piece .entry)))))
+        × (r .end ≡ at + length (linesText numbers [] (drop from (now (piece .entry)))))
+        × (r .left ≤ length (now (piece .entry)))
+        × (drop (r .left) (now (piece .entry)) ≡ leftFrom [] (drop from (now (piece .entry)))) ⌝ }
+{
+    let mut end = at;
+    let mut left = from;
+    let mut lf = line_end(piece, left);
+    while lf < piece.len() {
+        end = line::put(out, end, numbers, &piece[left..lf]);
+        left = lf + 1;
+        lf = line_end(piece, left);
+    }
+    Ended { end, left }
+}
+
+// Puts the lines for those that end in a piece, the first of them begun with what is held, and keeps what stands behind the last LF.
+pub fn put_lines(out: &mut [u8], at: usize, numbers: Numbers, held: Held, piece: &[u8]) -> Kept
+    requires { ⌜ at + 10 * (length (heldIn held) + length (now piece)) ≤ length (now out) ⌝ }
+    ensures { λ r. ⌜ (now (out .exit) ≡ putAt (now (out .entry)) at (linesText numbers (heldIn held) (now (piece .entry))))
+        × (r .end ≡ at + length (linesText numbers (heldIn held) (now (piece .entry))))
+        × (r .held ≡ heldOf (keptOf (leftFrom (heldIn held) (now (piece .entry))))) ⌝ }
+{
+    let lf = line_end(piece, 0);
+    let first = held::with(held, &piece[..lf], LINE);
+    if lf == piece.len() {
+        return Kept {
+            held: first,
+            end: at,
+        };
+    }
+    let octets = first.octets;
+    let len = first.len;
+    let end = line::put(out, at, numbers, &octets[..len]);
+    let ended = put_ended(out, end, numbers, piece, lf + 1);
+    let left = ended.left;
+    Kept {
+        held: held::with(held::none(), &piece[left..], LINE),
+        end: ended.end,
+    }
+}
