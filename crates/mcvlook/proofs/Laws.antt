@@ -42,27 +42,31 @@ module _ (out : List ℕ) (at : ℕ) (start : at ≤ length out) where
         put = rw (le-leb (at + length text) (length out) (omega arith), past, append-nil, e, part-rest);
       }
 
-  -- a piece for which there is room
-  pub gathers-step : (look : Look) (piece : List ℕ) (r : Stepped) (now : List ℕ) → at + roomAsked (length piece) ≤ length out
-      → step≡ look piece (midOf at (length out - at) out) r now → length now ≡ length (midOf at (length out - at) out)
-      → Gathers (stepOf (stateOf look) piece .text) out at (at + r .written) (putMid at (length out - at) out now)
+  -- a piece for which there is room, into the part from a place on that is this one
+  pub gathers-step : (look : Look) (piece : List ℕ) (r : Stepped) (now : List ℕ) (from : ℕ) → at + roomAsked (length piece) ≤ length out
+      → step≡ look piece (midOf from (length out - from) out) r now → length now ≡ length (midOf from (length out - from) out) → from ≡ at
+      → Gathers (stepOf (stateOf look) piece .text) out at (at + r .written) (putMid from (length out - from) out now)
       × (r .look ≡ lookAs (stepOf (stateOf look) piece .to))
   unfolding steppedOf afterStep hasRoom
-  gathers-step look piece r now room e l =
+  gathers-step look piece r now from room e l behind =
       let part = midOf at (length out - at) out in
       let enough = le-leb (roomAsked (length piece)) (length part) (rw (part-rest, length-drop) (omega arith)) in
-      let stepped = rw enough at (e .0) in (
-        rw (ap (λ (x : Stepped). x .written) stepped) (gathers (stepOf (stateOf look) piece .text) now (rw enough at (e .1)) l),
+      let step = rw behind at e in
+      let stepped = rw enough at (step .0) in (
+        rw (behind, ap (λ (x : Stepped). x .written) stepped)
+            (gathers (stepOf (stateOf look) piece .text) now (rw enough at (step .1)) (rw behind at l)),
         ap (λ (x : Stepped). x .look) stepped,
       )
 
-  -- the end, with room
+  -- the end, for which there is room
   module _ (look : Look) (room : at + roomAsked 0 ≤ length out) (now : List ℕ) (l : length now ≡ length (midOf at (length out - at) out)) where
+    -- what is left is printed
     enough : endAs look (length (midOf at (length out - at) out)) ≡ made (endOf (stateOf look))
     unfolding endAs
     enough =
         rw (le-leb (roomAsked 0) (length (midOf at (length out - at) out)) (rw (part-rest, length-drop) (omega arith)))
 
+    -- the octets that are told are put at the place
     pub gathers-end : (octets : ℕ) → end≡ look (midOf at (length out - at) out) (Written octets) now
         → Gathers (endOf (stateOf look)) out at (at + octets) (putMid at (length out - at) out now)
     unfolding told after

@@ -12,10 +12,10 @@ ghost use Rattle.look.specs.Steps.{stateOf, lookAs, stepOf, endOf};
 ghost use Rattle.mcvlook.specs.Gathered.{Gathers};
 
 // Input is read in pieces of at most so many octets; output is written once as many are gathered, and at the end.
-const PIECE: usize = 4096;
+const PIECE: usize = 16384;
 
 // The room for output: what is gathered and not yet written, and what one more piece of the input prints.
-const OUT: usize = 65536;
+const OUT: usize = 196608;
 
 // What is kept, how much output is gathered, and whether there is more to do.
 struct Turn {
@@ -26,7 +26,7 @@ struct Turn {
 
 // Prints what comes of a piece behind what is gathered. There is room for it.
 fn gather(look: Look, piece: &[u8], out: &mut [u8], gathered: usize) -> Stepped
-    requires { ⌜ (length (now piece) ≤ 4096) × (gathered < 4096) × (length (now out) ≡ 65536) ⌝ }
+    requires { ⌜ (length (now piece) ≤ 16384) × (gathered < 16384) × (length (now out) ≡ 196608) ⌝ }
     ensures { λ r. ⌜ Gathers (stepOf (stateOf look) (now (piece .entry)) .text) (now (out .entry)) gathered (gathered + r .written) (now (out .exit))
         × (r .look ≡ lookAs (stepOf (stateOf look) (now (piece .entry)) .to)) ⌝ }
 {
@@ -35,7 +35,7 @@ fn gather(look: Look, piece: &[u8], out: &mut [u8], gathered: usize) -> Stepped
 
 // Prints what is left at the end behind what is gathered, and gives the place past it. There is room for it.
 fn gather_last(look: Look, out: &mut [u8], gathered: usize) -> usize
-    requires { ⌜ (gathered < 4096) × (length (now out) ≡ 65536) ⌝ }
+    requires { ⌜ (gathered < 16384) × (length (now out) ≡ 196608) ⌝ }
     ensures { λ r. ⌜ Gathers (endOf (stateOf look)) (now (out .entry)) gathered r (now (out .exit)) ⌝ }
 {
     match look::end(look, &mut out[gathered..]) {
@@ -47,7 +47,7 @@ fn gather_last(look: Look, out: &mut [u8], gathered: usize) -> usize
 // Writes what is gathered, where it fills a piece.
 fn write_some(look: Look, out: &[u8], gathered: usize) -> Turn
     requires { ⌜ gathered ≤ length (now out) ⌝ }
-    ensures { λ r. ⌜ r .gathered < 4096 ⌝ }
+    ensures { λ r. ⌜ r .gathered < 16384 ⌝ }
 {
     if gathered < PIECE {
         return Turn {
@@ -66,7 +66,7 @@ fn write_some(look: Look, out: &[u8], gathered: usize) -> Turn
 // Writes all that is gathered, and ends.
 fn finish(look: Look, out: &[u8], gathered: usize) -> Turn
     requires { ⌜ gathered ≤ length (now out) ⌝ }
-    ensures { λ r. ⌜ r .gathered < 4096 ⌝ }
+    ensures { λ r. ⌜ r .gathered < 16384 ⌝ }
 {
     io::write_all(STDOUT_FILENO, &out[..gathered]);
     Turn {
@@ -79,8 +79,8 @@ fn finish(look: Look, out: &[u8], gathered: usize) -> Turn
 // Reads a piece, and prints and writes what comes of it. At the end of the input, where a read fails, and behind a refused sheet, all that is
 // gathered is written.
 fn take_turn(look: Look, out: &mut [u8], gathered: usize) -> Turn
-    requires { ⌜ (gathered < 4096) × (length (now out) ≡ 65536) ⌝ }
-    ensures { λ r. ⌜ r .gathered < 4096 ⌝ }
+    requires { ⌜ (gathered < 16384) × (length (now out) ≡ 196608) ⌝ }
+    ensures { λ r. ⌜ r .gathered < 16384 ⌝ }
 {
     let mut piece = [0u8; PIECE];
     let got = libc::read(STDIN_FILENO, &mut piece);
@@ -103,7 +103,7 @@ fn take_turn(look: Look, out: &mut [u8], gathered: usize) -> Turn
 
 // A proved loop has to end, and nothing says that the input does: the turns are counted down, from a number that no run uses up.
 fn look_through(out: &mut [u8])
-    requires { ⌜ length (now out) ≡ 65536 ⌝ }
+    requires { ⌜ length (now out) ≡ 196608 ⌝ }
 {
     let mut look = look::start();
     let mut gathered = 0;

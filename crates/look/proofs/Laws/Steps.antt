@@ -1,17 +1,18 @@
 -- Laws of the steps: what is held, the lines in a piece one after the other, and what a piece prints. Assumes nothing.
 use mathlib.Core.Path.{_≡_, refl, sym, ap, _∙_}
 use mathlib.Core.Logic.{_⊎_}
+use mathlib.Core.Bool.{Bool, true, false, not, _&&_, _||_}
 use Prim.Native.Nat.{ℕ, _+_, _-_, _*_, _≤_, _<_, min}
 use native.Mathlib.Numerals.{add-one}
 use native.Mathlib.Omega.{arith}
 use mathlib.Core.List.{List, [], _∷_, _++_, map, flatten, append-nil, append-assoc}
 use lib.ListN.{length, getD, take, drop, replicate, take-append-drop, length-append, length-take, length-drop, length-replicate}
-use lib.Seq.{take-all, take-take, drop-cons, drop-drop, drop-append-le, drop-append-add, length-take-le}
+use lib.Seq.{take-all, take-suc, take-take, drop-cons, drop-drop, drop-append-le, drop-append-add, length-take-le}
 use lib.Dec.{T, eqb}
 use borrow.Author.Tests.{not-false, eqb-true, eq-eqb, ne-eqb, lt-ltb, le-ltb}
-use Rattle.octets.specs.Choice.{front}
+use Rattle.octets.specs.Choice.{every, front}
 use Rattle.octets.specs.Buffer.{putAt, padded}
-use Rattle.octets.proofs.Choice.{every-front, front-split, front-stop}
+use Rattle.octets.proofs.Choice.{T-true, true-T, T-and-left, T-and-right, every-append, every-front, front-split, front-stop}
 use Rattle.octets.proofs.Buffer.{putAt-next, putAt-nil, put-both, putAt-zeros, length-putAt, length-padded}
 use Rattle.sheet.specs.Line.{lf}
 use Rattle.sheet.specs.Value.{readOf}
@@ -111,6 +112,37 @@ last-some n [] h = absurd (h refl)
 last-some n (c ∷ line) h = append-nil (lineBy n (c ∷ line))
 
 -- ---- the lines in a piece
+
+-- one or the other is that not both of the opposites are
+or-not : (a b : Bool) → (not a || b) ≡ not (a && (not b && true))
+or-not false b = refl
+or-not true false = refl
+or-not true true = refl
+
+-- an LF among one octet more
+pub lf-among : (s : List ℕ) (i : ℕ) (found : Bool) → i < length s → found ≡ not (every inLine (take i s))
+    → (found || eqb (getD s i 0) lf) ≡ not (every inLine (take (i + 1) s))
+lf-among s i found h e =
+    rw (e, add-one, take-suc s i 0 h, every-append inLine (take i s) (getD s i 0 ∷ [])) (or-not (every inLine (take i s)) (eqb (getD s i 0) lf))
+
+-- elements that all pass, and the front of those behind them
+front-every : (p : ℕ → Bool) (xs ys : List ℕ) → T (every p xs) → front p (xs ++ ys) ≡ xs ++ front p ys
+front-every p [] ys t = refl
+front-every p (x ∷ xs) ys t =
+    rw (T-true (p x) (T-and-left (p x) (every p xs) t), front-every p xs ys (T-and-right (p x) (every p xs) t))
+
+-- octets up to a place without an LF are passed over: the line ends where it did
+pub line-passed : (s : List ℕ) (i end : ℕ) → i ≤ end → end ≤ length s → not (every inLine (take (end - i) (drop i s))) ≡ false
+    → end + length (front inLine (drop end s)) ≡ i + length (front inLine (drop i s))
+line-passed s i end l h t =
+    let xs = take (end - i) (drop i s) in
+    let rest = front inLine (drop end s) in
+    let n : i + (end - i) ≡ end = omega arith in
+    let k : length xs ≡ end - i = length-take-le (end - i) (drop i s) (rw length-drop (omega arith)) in
+    let split : drop i s ≡ xs ++ drop end s = sym (take-append-drop (end - i) (drop i s)) ∙ rw (drop-drop, n) in
+    let e : front inLine (drop i s) ≡ xs ++ rest =
+    ap (front inLine) split ∙ front-every inLine xs (drop end s) (true-T (every inLine xs) (not-false (every inLine xs) t)) in
+    omega (arith, ap length e, length-append xs rest)
 
 -- the line up to the LF has no LF
 line-one : (s : List ℕ) → T (oneLine (front inLine s))

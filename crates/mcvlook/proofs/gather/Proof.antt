@@ -25,7 +25,8 @@ returns : tie.Need-returns
 returns c =
     let a = c .before .before .before .before .before .before .args in
     let w = c .before .before .step in
-    gathers-step (a .out .now) (a .gathered) (omega arith) (a .look) (a .piece .now) (w .result) (w .last .1 .1 .0) (omega arith) (w .ensures) (c .before .out .given .0)
+    gathers-step (a .out .now) (a .gathered) (omega arith) (a .look) (a .piece .now) (w .result) (w .last .1 .1 .0) _ (omega arith) (w .ensures) (c .before .out .given .0)
+    (omega arith)
 
 pub gather-spec : {M : Type 1} → statement M
 gather-spec =

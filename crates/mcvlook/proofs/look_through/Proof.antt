@@ -7,7 +7,7 @@ use Rattle.mcvlook.proofs.look_through.Statement.{statement}
 use Rattle.mcvlook.proofs.look_through.Tie as tie
 
 abbrev Inv-loop : tie.InvT-loop
-Inv-loop out₀ look₀ gathered₀ turns₀ out look gathered turns = (length out ≡ 65536) × (gathered < 4096)
+Inv-loop out₀ look₀ gathered₀ turns₀ out look gathered turns = (length out ≡ 196608) × (gathered < 16384)
 
 abbrev μ-loop : tie.MeasureT-loop
 μ-loop out₀ look₀ gathered₀ turns₀ out look gathered turns = turns

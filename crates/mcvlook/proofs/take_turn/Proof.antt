@@ -51,7 +51,7 @@ add-end : tie.Need-add-end
 add-end c =
     let start = c .before .before .before .before .before .before .before .before .before .before .before .before .before .before in
     let gather = c .before .before .before .gather in
-    let fits : start .args .gathered + gather .result .written ≤ 65536 = rw (start .pre .1) at (gather .ensures .0 .fits) in
+    let fits : start .args .gathered + gather .result .written ≤ 196608 = rw (start .pre .1) at (gather .ensures .0 .fits) in
     omega arith
 
 is-refused-requires : tie.Need-is-refused-requires

@@ -20,6 +20,9 @@ Inv-loop piece from i₀ i = i + length (front inLine (drop i piece)) ≡ from +
 abbrev μ-loop : tie.MeasureT-loop
 μ-loop piece from i₀ i = length piece - i
 
+near-end-requires : tie.Need-near-end-requires Inv-loop μ-loop
+near-end-requires c κs = tt
+
 loop-holds : tie.Need-loop-holds Inv-loop μ-loop
 loop-holds c = omega arith
 
@@ -28,7 +31,7 @@ shared-slice-read-if1 c = omega arith
 
 returns : tie.Need-returns Inv-loop μ-loop
 returns c =
-    let piece = now (c .before .before .before .before .args .piece) in
+    let piece = now (c .before .before .before .before .before .before .args .piece) in
     let i = c .before .before .before .loop .i in
     omega (arith, ap length (front-drop-false inLine piece i (omega arith) (ap not (eq-eqb (getD piece i 0) lf (c .if1 .taken)))))
 
@@ -40,13 +43,13 @@ loop-less c = omega arith
 
 loop-again : tie.Need-loop-again Inv-loop μ-loop
 loop-again c =
-    let piece = now (c .before .before .before .before .args .piece) in
+    let piece = now (c .before .before .before .before .before .before .args .piece) in
     let i = c .before .before .before .loop .i in
     omega (arith, ap length (front-drop-true inLine piece i (omega arith) (ap not (ne-eqb (getD piece i 0) lf (c .if1 .left)))))
 
 returns-2 : tie.Need-returns-2 Inv-loop μ-loop
 returns-2 c =
-    let piece = now (c .before .before .args .piece) in
+    let piece = now (c .before .before .before .before .args .piece) in
     omega (arith, ap length (front-drop-end inLine piece (c .before .loop .i) (omega arith)))
 
 pub line-end-spec : {M : Type 1} → statement M
@@ -55,6 +58,7 @@ line-end-spec =
     (tie.spec
     Inv-loop
     μ-loop
+    near-end-requires
     loop-holds
     shared-slice-read-if1
     returns
