@@ -46,7 +46,7 @@ printedBy c = take (c .said .written) (c .after)
 abbrev pub pieceOf : Call → List ℕ
 pieceOf c = c .piece
 
--- Any input in any pieces: from `start`, `step` after `step` and then `end` print what `lookOf` says of the whole, and none is refused.
+-- Any input in any pieces: from `start`, `step` after `step` and then `end` print what `lookOf` says of the whole, and the end is not refused.
 abbrev pub PiecesPrintTheWhole : Type 0
 PiecesPrintTheWhole =
     (first last : Look) (calls : List Call) (out : List ℕ) (r : Writing) (after : List ℕ)

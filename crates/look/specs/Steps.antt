@@ -1,5 +1,5 @@
--- The same piece by piece: what is kept between two pieces of the input, and what each piece prints. That any pieces print what `lookOf`
--- says of all of them is claimed in Claims.antt. Assumes nothing.
+-- What `mcvlook` prints piece by piece: what is kept between two pieces of the input, and what each piece prints. That any pieces print what
+-- `lookOf` says of the whole is claimed in Claims.antt. Assumes nothing.
 use Prim.Native.Nat.{ℕ, _+_, _*_}
 use mathlib.Core.Bool.{Bool, true, false}
 use mathlib.Core.List.{List, [], _∷_, _++_, map, flatten}
@@ -156,9 +156,9 @@ steppedOf look piece out =
     (record { look = lookAs (w .to); written = length (w .text); refusal = noRefusal })
     (record { look = look; written = 0; refusal = noRoom })
 
+unfoldable pub afterStep : Look → List ℕ → List ℕ → List ℕ
+afterStep look piece out = pick (hasRoom piece out) (over (stepOf (stateOf look) piece .text) out) out
+
 -- at the end likewise
 unfoldable pub endAs : Look → ℕ → Made
 endAs look room = pick (leb (roomAsked 0) room) (made (endOf (stateOf look))) (refused 11 0)
-
-unfoldable pub afterStep : Look → List ℕ → List ℕ → List ℕ
-afterStep look piece out = pick (hasRoom piece out) (over (stepOf (stateOf look) piece .text) out) out

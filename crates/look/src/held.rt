@@ -3,7 +3,7 @@ ghost use mathlib.Core.Path.{_≡_};
 ghost use mathlib.Core.List.{[], _++_};
 ghost use Prim.Native.Nat.{_≤_, min};
 ghost use lib.ListN.{length, take};
-ghost use Rattle.look.specs.Steps.{heldIn, heldOf};
+ghost use Rattle.look.specs.Steps.{mostHeld, heldIn, heldOf};
 
 // The most octets that are held: as many as decide a sheet, and more than the digits of a packet.
 pub const MOST: usize = 1024;
@@ -40,7 +40,7 @@ pub fn length_of(held: Held) -> usize
 
 // What is held and more behind it, as far as so many octets.
 pub fn with(held: Held, more: &[u8], most: usize) -> Held
-    requires { ⌜ most ≤ 1024 ⌝ }
+    requires { ⌜ most ≤ mostHeld ⌝ }
     ensures { λ r. ⌜ r ≡ heldOf (take most (heldIn held ++ now (more .entry))) ⌝ }
 {
     let old = held.octets;

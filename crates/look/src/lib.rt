@@ -21,7 +21,7 @@ ghost use Prim.Native.Nat.{_+_, _*_, _≤_};
 ghost use lib.Dec.{leb};
 ghost use lib.ListN.{length};
 ghost use Rattle.octets.specs.Buffer.{putAt};
-ghost use Rattle.look.specs.Steps.{inSheet, inLines, refusedSheet, stateOf, lookAs, fed, stepOf, lastText, decided, heldIn, roomAsked};
+ghost use Rattle.look.specs.Steps.{mostHeld, inSheet, inLines, refusedSheet, stateOf, lookAs, fed, stepOf, lastText, decided, heldIn, roomAsked};
 ghost use Rattle.look.specs.Inner.{WentTo};
 ghost use Rattle.look.specs.Promises.{start≡, step≡, end≡, is-refused≡};
 
@@ -129,7 +129,7 @@ fn in_lines(out: &mut [u8], at: usize, numbers: Numbers, held: Held, piece: &[u8
 
 // Reads the sheet from what is held, and puts its refusal, or the lines that end behind it and in the rest of a piece.
 fn decide(out: &mut [u8], held: Held, rest: &[u8]) -> Went
-    requires { ⌜ ((length (heldIn held) ≡ 1024) ⊎ (now rest ≡ [])) × (roomAsked (length (now rest)) ≤ length (now out)) ⌝ }
+    requires { ⌜ ((length (heldIn held) ≡ mostHeld) ⊎ (now rest ≡ [])) × (roomAsked (length (now rest)) ≤ length (now out)) ⌝ }
     ensures { λ r. ⌜ WentTo (decided (heldIn held ++ now (rest .entry))) (now (out .entry)) 0 (r .look) (r .end) (now (out .exit)) ⌝ }
 {
     let octets = held.octets;

@@ -8,7 +8,6 @@ use packet::Reading;
 use packet::read_by;
 use sheet::Refusal;
 use writing::Writing;
-ghost use mathlib.Core.Path.{_≡_};
 ghost use Rattle.packet.specs.Message.{readSaid};
 ghost use Rattle.look.specs.Line.{textOf};
 ghost use Rattle.look.specs.Promises.{Printed, message≡, refusal≡, line≡};

@@ -8,8 +8,8 @@ use Prim.Native.Nat.{ℕ, zero, suc, _+_, _-_, _≤_, _<_, min}
 use native.Mathlib.Nat.{le-of-suc-le-suc, not-suc-le-zero, min-eq-right}
 use native.Mathlib.Numerals.{add-one}
 use native.Mathlib.Omega.{arith}
-use lib.ListN.{length, getD, take, drop, length-append, length-drop, drop-of-length-le}
-use lib.Seq.{take-all, take-length, take-suc, take-append-le, take-append-add, drop-length, drop-at, take-at}
+use lib.ListN.{length, getD, take, drop, length-drop, drop-of-length-le}
+use lib.Seq.{take-all, take-length, take-suc, take-append-le, take-append-add, drop-length, take-at}
 use Rattle.octets.specs.Choice.{front}
 use Rattle.octets.proofs.Choice.{le-or-lt, front-split}
 
@@ -86,19 +86,3 @@ unfolding flatten
 flatten-next [] k h = absurd (not-suc-le-zero h)
 flatten-next (l ∷ ls) zero h = append-nil l
 flatten-next (l ∷ ls) (suc k) h = rw (flatten-next ls k (le-of-suc-le-suc h), append-assoc)
-
--- those before one, it, and those behind it
-pub flatten-split : {A : Type 0} (ls : List (List A)) (k : ℕ) → k < length ls
-    → flatten ls ≡ flatten (take k ls) ++ (getD ls k [] ++ flatten (drop (suc k) ls))
-unfolding flatten
-flatten-split [] k h = absurd (not-suc-le-zero h)
-flatten-split (l ∷ ls) zero h = refl
-flatten-split (l ∷ ls) (suc k) h = rw (flatten-split ls k (le-of-suc-le-suc h)) (rw append-assoc)
-
--- one, by where it stands among them
-pub flatten-part : {A : Type 0} (ls : List (List A)) (k from to : ℕ) → k < length ls → from ≡ length (flatten (take k ls))
-    → to ≡ length (flatten (take (k + 1) ls)) → take (to - from) (drop from (flatten ls)) ≡ getD ls k []
-flatten-part ls k from to h f t =
-    let n : length (getD ls k []) ≡ to - from = rw (f, t, add-one, flatten-next ls k h, length-append) (omega arith) in
-    rw (flatten-split ls k h, drop-at (flatten (take k ls)) (getD ls k [] ++ flatten (drop (suc k) ls)) from (sym f))
-    (take-at (getD ls k []) (flatten (drop (suc k) ls)) (to - from) n)

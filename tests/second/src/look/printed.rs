@@ -87,6 +87,7 @@ pub fn push(out: &mut Octets, numbers: &Numbers, line: &[u8]) {
 
 #[cfg(test)]
 mod tests {
+    use super::super::sample::filled;
     use super::*;
     use crate::bench::{sheet_s, PACKETS};
 
@@ -94,11 +95,6 @@ mod tests {
         let mut out = vec![];
         push(&mut out, &Numbers::on(&sheet_s()), line);
         String::from_utf8(out).unwrap()
-    }
-
-    /// An end response of so many octets in all, in hex: behind its header are words of zeros, which are skipped.
-    fn filled(octets: usize) -> String {
-        format!("86CC{:04X}000003E84D435632{}", octets / 4 - 1, "00".repeat(octets - 12))
     }
 
     #[test]

@@ -1,4 +1,4 @@
-//! The samples that `mcvlook` is tried on: samples/bench.txt, and samples/every.txt with what it prints in every.out.
+//! The samples that `mcvlook` is tried on, samples/bench.txt and samples/every.txt; what they print stands beside them.
 
 use super::sample_lines::{NO_PACKETS, REFUSED_1, REFUSED_2, REFUSED_3, REFUSED_4};
 use super::sample_messages::{Made, READ, REFUSED_5};
@@ -33,8 +33,8 @@ fn line((kind, ack, ssrc, fields): &Made) -> String {
     hex(&Draft { ack: *ack, number: *kind, ssrc: *ssrc, letters: *letters, fields }.octets())
 }
 
-/// An end response, and behind it words of zeros up to so many octets in all.
-fn filled(octets: usize) -> String {
+/// A transmission end response under S, and behind it words of zeros, which are skipped, up to so many octets in all.
+pub fn filled(octets: usize) -> String {
     format!("86CC{:04X}000003E84D435632{}", octets / 4 - 1, "00".repeat(octets - 12))
 }
 

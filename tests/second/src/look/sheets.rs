@@ -14,7 +14,7 @@ impl Texts {
         Texts(texts::systematic(random))
     }
 
-    /// The text of input `at`: its sort follows from its number, so that each sort comes about equally often.
+    /// The text of input `at`: its sort follows from its number, so that no sort is missing.
     pub fn at(&self, random: &mut Random, at: usize) -> Octets {
         match at % 8 {
             0..=2 => any_good(random).lines().concat(),
