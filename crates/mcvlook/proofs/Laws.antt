@@ -11,8 +11,10 @@ use borrow.Rule.Slice.PartMut.{midOf, putMid}
 use Rattle.octets.specs.Buffer.{over, putAt}
 use Rattle.look.specs.declared.Look.{Look}
 use Rattle.look.specs.declared.Stepped.{Stepped}
-use Rattle.look.specs.Steps.{stateOf, lookAs, stepOf, endOf, roomAsked, hasRoom, steppedOf, afterStep, endAs}
+use Rattle.look.specs.Steps.{stateOf, lookAs, stepOf, endOf, roomAsked, endAs}
 use Rattle.look.specs.Promises.{step≡, end≡}
+use Rattle.look.specs.Claims.{Call, Called}
+use Rattle.look.proofs.Laws.Calls.{called-said, called-after, end-made}
 use Rattle.sheet.specs.declared.Refusal.{Refusal}
 use Rattle.writing.specs.declared.Writing.the-variants.{Written, Refused}
 use Rattle.writing.specs.Writing.{made, told, after}
@@ -47,14 +49,14 @@ module _ (out : List ℕ) (at : ℕ) (start : at ≤ length out) where
       → step≡ look piece (midOf from (length out - from) out) r now → length now ≡ length (midOf from (length out - from) out) → from ≡ at
       → Gathers (stepOf (stateOf look) piece .text) out at (at + r .written) (putMid from (length out - from) out now)
       × (r .look ≡ lookAs (stepOf (stateOf look) piece .to))
-  unfolding steppedOf afterStep hasRoom
   gathers-step look piece r now from room e l behind =
       let part = midOf at (length out - at) out in
-      let enough = le-leb (roomAsked (length piece)) (length part) (rw (part-rest, length-drop) (omega arith)) in
-      let step = rw behind at e in
-      let stepped = rw enough at (step .0) in (
+      let enough : roomAsked (length piece) ≤ length part = rw (part-rest, length-drop) (omega arith) in
+      let c : Call = record { piece = piece; out = part; said = r; after = now } in
+      let called : Called look c = (enough, rw behind at e) in
+      let stepped = called-said look c called in (
         rw (behind, ap (λ (x : Stepped). x .written) stepped)
-            (gathers (stepOf (stateOf look) piece .text) now (rw enough at (step .1)) (rw behind at l)),
+            (gathers (stepOf (stateOf look) piece .text) now (called-after look c called) (rw behind at l)),
         ap (λ (x : Stepped). x .look) stepped,
       )
 
@@ -62,9 +64,7 @@ module _ (out : List ℕ) (at : ℕ) (start : at ≤ length out) where
   module _ (look : Look) (room : at + roomAsked 0 ≤ length out) (now : List ℕ) (l : length now ≡ length (midOf at (length out - at) out)) where
     -- what is left is printed
     enough : endAs look (length (midOf at (length out - at) out)) ≡ made (endOf (stateOf look))
-    unfolding endAs
-    enough =
-        rw (le-leb (roomAsked 0) (length (midOf at (length out - at) out)) (rw (part-rest, length-drop) (omega arith)))
+    enough = end-made look (midOf at (length out - at) out) (rw (part-rest, length-drop) (omega arith))
 
     -- the octets that are told are put at the place
     pub gathers-end : (octets : ℕ) → end≡ look (midOf at (length out - at) out) (Written octets) now

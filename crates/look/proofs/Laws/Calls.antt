@@ -29,7 +29,7 @@ module _ (look : Look) (c : Call) (h : Called look c) where
   called-room = le-leb (roomAsked (length (c .piece))) (length (c .out)) (h .0)
 
   -- so the piece is taken
-  called-said : c .said
+  pub called-said : c .said
       ≡ record {
         look = lookAs (stepOf (stateOf look) (c .piece) .to);
         written = length (stepOf (stateOf look) (c .piece) .text);
@@ -39,7 +39,7 @@ module _ (look : Look) (c : Call) (h : Called look c) where
   called-said = h .1 .0 ∙ rw called-room
 
   -- and its text is put into the front
-  called-after : c .after ≡ over (stepOf (stateOf look) (c .piece) .text) (c .out)
+  pub called-after : c .after ≡ over (stepOf (stateOf look) (c .piece) .text) (c .out)
   unfolding afterStep
   called-after = h .1 .1 ∙ rw called-room
 
@@ -56,21 +56,21 @@ room-is-enough look c h = ap (λ (s : Stepped). s .refusal) (called-said look c 
 
 -- ---- the end
 
-module _ (look : Look) (out : List ℕ) (r : Writing) (now : List ℕ) (room : roomAsked 0 ≤ length out) (h : end≡ look out r now) where
-  -- there is room, so that its text is made
-  end-made : endAs look (length out) ≡ made (endOf (stateOf look))
-  unfolding endAs
-  end-made = rw (le-leb (roomAsked 0) (length out) room)
+-- where there is room, its text is made
+pub end-made : (look : Look) (out : List ℕ) → roomAsked 0 ≤ length out → endAs look (length out) ≡ made (endOf (stateOf look))
+unfolding endAs
+end-made look out room = rw (le-leb (roomAsked 0) (length out) room)
 
+module _ (look : Look) (out : List ℕ) (r : Writing) (now : List ℕ) (room : roomAsked 0 ≤ length out) (h : end≡ look out r now) where
   -- it is written whole
   end-written : r ≡ Written (length (endOf (stateOf look)))
   unfolding told
-  end-written = writing-apart r (Written (length (endOf (stateOf look)))) (h .0 ∙ ap told end-made)
+  end-written = writing-apart r (Written (length (endOf (stateOf look)))) (h .0 ∙ ap told (end-made look out room))
 
   -- into the front
   end-printed : take (length (endOf (stateOf look))) now ≡ endOf (stateOf look)
   unfolding after
-  end-printed = rw (h .1, end-made) (take-over (endOf (stateOf look)) out)
+  end-printed = rw (h .1, end-made look out room) (take-over (endOf (stateOf look)) out)
 
 -- ---- calls one after another
 

@@ -144,7 +144,7 @@ Kept (inLines n line) = length line ≤ mostDigits + 1
 Kept refusedSheet = Unit {0}
 
 -- it comes back
-kept-back : (st : State) → Kept st → stateOf (lookAs st) ≡ st
+pub kept-back : (st : State) → Kept st → stateOf (lookAs st) ≡ st
 unfolding Kept stateOf lookAs
 kept-back (inSheet t) k = ap inSheet (held-back t (omega arith))
 kept-back (inLines n line) k = ap (inLines n) (held-back line (omega arith))
@@ -156,7 +156,7 @@ unfolding Kept fed keptOf
 fed-kept n line piece = omega (arith, length-take (mostDigits + 1) (leftFrom line piece))
 
 -- a sheet that is decided does
-decided-kept : (t : List ℕ) → Kept (decided t .to)
+pub decided-kept : (t : List ℕ) → Kept (decided t .to)
 unfolding decided Kept
 decided-kept t =
     let r = sheet.readOf t in

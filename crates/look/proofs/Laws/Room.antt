@@ -27,6 +27,7 @@ use Rattle.look.specs.Look.{sheetLine}
 use Rattle.look.specs.Steps.{mostHeld, heldIn, heldOf, State, Went, inSheet, inLines, refusedSheet, stateOf, lookAs, fed, decided, stepOf, roomAsked, noRoom, hasRoom, steppedOf, afterStep, lastText, endOf, endAs, leftFrom, linesText}
 use Rattle.look.specs.Inner.{WentTo}
 use Rattle.look.proofs.Laws.Fits.{lines-fit, last-fits}
+use Rattle.look.proofs.Laws.Pieces.{kept-back, decided-kept}
 use Rattle.look.proofs.Laws.Steps.{held-none, kept-short, kept-held, step-held, step-decides, state-sheet, state-lines, state-refused}
 
 -- ---- a refusal's line
@@ -70,16 +71,6 @@ sheet-fits t piece h =
 pub lines-step-fits : (n : Numbers) (line piece : List ℕ) → length line ≤ mostHeld → length (stepOf (inLines n line) piece .text) ≤ roomAsked (length piece)
 unfolding stepOf
 lines-step-fits n line piece h = omega (arith, fed-room n line piece)
-
--- ---- what is kept of a sheet that is decided is what it is
-
-pub decided-back : (t : List ℕ) → stateOf (lookAs (decided t .to)) ≡ decided t .to
-unfolding decided
-decided-back t =
-    let r = readOf t in
-    pick-cases (λ (w : Went). stateOf (lookAs (w .to)) ≡ w .to) (eqb (r .refusal .number) 0)
-    (fed (numbersOf (r .sheet)) [] (drop (r .used) t)) (record { to = refusedSheet; text = sheetLine (r .refusal .at) })
-    (λ _. unfold fed lookAs stateOf in rw kept-held) (λ _. unfold lookAs stateOf in refl)
 
 -- ---- a step
 
@@ -150,7 +141,7 @@ module _ (t : List ℕ) (h : length t ≤ mostHeld) (out : List ℕ) (room : roo
   unfolding endOf
   decided-end past now p q =
       let last = lastText (decided t .to) in
-      let s : stateOf look ≡ decided t .to = ap stateOf (w .kept) ∙ decided-back t in
+      let s : stateOf look ≡ decided t .to = ap stateOf (w .kept) ∙ kept-back (decided t .to) (decided-kept t) in
       let fits : end + length last ≤ length out = rw (← s) (omega (arith, last-room look, decided-leaves)) in
       let both = put-both out 0 (decided t .text) last mid end now past (w .put) (w .past) (rw s at p) (rw s at q) fits in
       (both .1, both .0, rw length-append (omega (arith, fits, w .past)))
