@@ -7,7 +7,6 @@ use packet::Message;
 use packet::Name;
 use packet::Verdict;
 use reception::Answer;
-use sheet::numbers::Numbers;
 use sheet::numbers::SERVER;
 use sheet::user::name_length;
 use writing::Writing;
@@ -17,8 +16,7 @@ ghost use lib.Dec.{T};
 ghost use lib.ListN.{length};
 ghost use Rattle.sheet.specs.Value.{nameOf, sheetFrom};
 ghost use Rattle.packet.specs.declared.Verdict.the-variants.{Granted, Rejected};
-ghost use Rattle.packet.specs.Kind.{numbersOf};
-ghost use Rattle.writing.specs.Writing.{fits, writingSaid};
+ghost use Rattle.writing.specs.Writing.{fitting, writingSaid};
 ghost use Rattle.reception.specs.Answer.{messageOf};
 ghost use Rattle.controller.specs.Sending.{sendingSaid};
 ghost use Rattle.controller.specs.Inner.{serverHead, responseOut, endResponseOut, endRequestOut, ackOut, outgoingOf, sendingFrom, SentFrom};
@@ -129,8 +127,8 @@ fn sending_of(writing: Writing) -> Sending
 }
 
 // Writes the packet that an answer sends under a sheet's numbers, on the stream of the transmitter whose User ID the row holds.
-pub fn send(numbers: &Numbers, row: &[u8], answer: Answer, out: &mut [u8]) -> Sending
-    requires { ⌜ T (fits (numbersOf (sheetFrom (now numbers)))) × (length (now row) ≤ 60) ⌝ }
+pub fn send(numbers: &[u32], row: &[u8], answer: Answer, out: &mut [u8]) -> Sending
+    requires { ⌜ T (fitting (now numbers)) × (length (now row) ≤ 60) ⌝ }
     ensures { λ r. ⌜ SentFrom (sheetFrom (now (numbers .entry))) (now (row .entry)) (messageOf answer) (now (out .entry)) r (now (out .exit)) ⌝ }
 {
     match message_of(numbers[SERVER], row, answer) {

@@ -9,14 +9,16 @@ use reception::Event;
 use reception::What;
 use sheet::Found;
 use sheet::Senders;
-use sheet::Sheet;
 use sheet::Users;
 use sheet::find::by_ssrc;
 use sheet::find::by_user;
+use sheet::numbers::SEATS_LINE;
 use sheet::user::has_name;
 ghost use mathlib.Core.Path.{_≡_};
 ghost use Prim.Native.Nat.{_<_};
 ghost use lib.Dec.{T};
+ghost use lib.ListN.{length};
+ghost use Rattle.sheet.specs.Value.{sheetFrom};
 ghost use Rattle.packet.specs.Claims.{nameRight};
 ghost use Rattle.packet.specs.Kind.{numbersOf};
 ghost use Rattle.packet.specs.Message.{nameSaid, messageSaid};
@@ -25,6 +27,17 @@ ghost use Rattle.reception.specs.declared.What.the-variants.{End};
 ghost use Rattle.reception.specs.Steps.{refuses};
 ghost use Rattle.controller.specs.Event.{sendersOf, onStream, requestBy, endResponseOn, bySender, eventFrom, offeredSaid};
 ghost use Rattle.controller.specs.Inner.{octetsAt, NamesRight};
+
+// What a search by SSRC looks at of a sheet's numbers.
+fn senders_in(n: &[u32]) -> Senders
+    requires { ⌜ length (now n) ≡ 19 ⌝ }
+    ensures { λ r. ⌜ r ≡ sendersOf (sheetFrom (now (n .entry))) ⌝ }
+{
+    Senders {
+        seats: n[SEATS_LINE],
+        ssrcs: [n[11], n[12], n[13], n[14], n[15], n[16], n[17], n[18]],
+    }
+}
 
 // A refusal by its number alone.
 fn refused(number: u32) -> Offered
@@ -137,16 +150,12 @@ fn offered(senders: Senders, users: &Users, packet: &[u8], message: Message) -> 
 }
 
 // The event that a packet makes under a sheet, or 1 to 5, 8, 6 or 7. Whether the sheet is valid is not asked.
-pub fn event_in(sheet: Sheet, users: &Users, packet: &[u8]) -> Offered
-    ensures { λ r. ⌜ offeredSaid r ≡ eventFrom (sendersOf sheet) (now (users .entry)) (now (packet .entry)) (readBy (numbersOf sheet) (now (packet .entry))) ⌝ }
+pub fn event_in(numbers: &[u32], users: &Users, packet: &[u8]) -> Offered
+    requires { ⌜ length (now numbers) ≡ 19 ⌝ }
+    ensures { λ r. ⌜ offeredSaid r ≡ eventFrom (sendersOf (sheetFrom (now (numbers .entry)))) (now (users .entry)) (now (packet .entry)) (readBy (numbersOf (sheetFrom (now (numbers .entry)))) (now (packet .entry))) ⌝ }
 {
-    let ssrcs = sheet.ssrcs;
-    let senders = Senders {
-        seats: sheet.seats,
-        ssrcs,
-    };
-    match packet::read_by(packet::numbers_of(sheet), packet) {
-        Reading::Read(message) => offered(senders, users, packet, message),
+    match packet::read_by_lent(numbers, packet) {
+        Reading::Read(message) => offered(senders_in(numbers), users, packet, message),
         Reading::Refused(refusal) => Offered::Refused(refusal),
     }
 }

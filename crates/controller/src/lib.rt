@@ -7,11 +7,11 @@ use reception::Event;
 use sheet::Refusal;
 use sheet::Sheet;
 use sheet::Users;
-use sheet::numbers::Numbers;
 use sheet::numbers::SEATS_LINE;
 use sheet::numbers::are_valid_with;
+use sheet::numbers::numbers_of;
 ghost use mathlib.Core.Path.{_≡_};
-ghost use Rattle.sheet.specs.Value.{sheetFrom};
+ghost use Rattle.sheet.specs.Value.{sheetIn};
 ghost use Rattle.controller.specs.Promises.{event-of≡, packet-of≡};
 
 // The event that a packet makes, or why it makes none.
@@ -34,33 +34,34 @@ fn refusal(number: u32) -> Refusal
     Refusal { number, at: 0 }
 }
 
-// The event that a packet makes, or 12 line 0, 1 to 5, 8, 6 or 7, checked in that order. The User IDs are lent.
-pub fn event_lent(sheet: Sheet, users: &Users, packet: &[u8]) -> Offered
-    ensures { λ r. ⌜ event-of≡ sheet (now (users .entry)) (now (packet .entry)) r ⌝ }
+// The event that a packet makes, or 12 line 0, 1 to 5, 8, 6 or 7, checked in that order. A sheet's numbers and the User IDs are lent.
+pub fn event_lent(numbers: &[u32], users: &Users, packet: &[u8]) -> Offered
+    ensures { λ r. ⌜ event-of≡ (sheetIn (now (numbers .entry))) (now (users .entry)) (now (packet .entry)) r ⌝ }
 {
-    if !sheet::valid_with(sheet, users) {
+    if !are_valid_with(numbers, users) {
         return Offered::Refused(refusal(12));
     }
-    event::event_in(sheet, users, packet)
+    event::event_in(numbers, users, packet)
 }
 
-// The same, the User IDs by value.
+// The same, sheet and User IDs by value.
 pub fn event_of(sheet: Sheet, users: Users, packet: &[u8]) -> Offered
     ensures { λ r. ⌜ event-of≡ sheet users (now (packet .entry)) r ⌝ }
 {
-    event_lent(sheet, &users, packet)
+    let numbers = numbers_of(sheet);
+    event_lent(&numbers[..], &users, packet)
 }
 
 // Writes the packet that an answer on a stream sends into the front of `out`, a sheet's numbers and the User IDs lent: how many octets, that
 // it sends none, or 12 line 0, 9 or 11, checked in that order. 256 octets of stack suffice (bench/stack).
 pub fn packet_lent(
-    numbers: &Numbers,
+    numbers: &[u32],
     users: &Users,
     stream: u8,
     answer: Answer,
     out: &mut [u8],
 ) -> Sending
-    ensures { λ r. ⌜ packet-of≡ (sheetFrom (now (numbers .entry))) (now (users .entry)) stream answer (now (out .entry)) r (now (out .exit)) ⌝ }
+    ensures { λ r. ⌜ packet-of≡ (sheetIn (now (numbers .entry))) (now (users .entry)) stream answer (now (out .entry)) r (now (out .exit)) ⌝ }
 {
     if !are_valid_with(numbers, users) {
         return Sending::Refused(refusal(12));
@@ -75,6 +76,6 @@ pub fn packet_lent(
 pub fn packet_of(sheet: Sheet, users: Users, stream: u8, answer: Answer, out: &mut [u8]) -> Sending
     ensures { λ r. ⌜ packet-of≡ sheet users stream answer (now (out .entry)) r (now (out .exit)) ⌝ }
 {
-    let numbers = sheet::numbers::numbers_of(sheet);
-    packet_lent(&numbers, &users, stream, answer, out)
+    let numbers = numbers_of(sheet);
+    packet_lent(&numbers[..], &users, stream, answer, out)
 }

@@ -9,8 +9,20 @@ mod walk;
 
 use sheet::Refusal;
 use sheet::Sheet;
+use sheet::numbers::ACK;
+use sheet::numbers::END_REQUEST;
+use sheet::numbers::END_RESPONSE;
+use sheet::numbers::LINES;
+use sheet::numbers::REQUEST;
+use sheet::numbers::RESPONSE;
+use sheet::numbers::RESULT_ID;
+use sheet::numbers::TX_END;
+use sheet::numbers::TX_END_RESPONSE;
+use sheet::numbers::are_valid;
 ghost use mathlib.Core.Path.{_≡_};
 ghost use Prim.Native.Nat.{_<_};
+ghost use Rattle.sheet.specs.Value.{sheetIn};
+ghost use Rattle.packet.specs.Kind.{numbersOf};
 ghost use Rattle.packet.specs.Reading.{refused, readAs};
 ghost use Rattle.packet.specs.Message.{readSaid};
 ghost use Rattle.packet.specs.Inner.{headIn, Walked, kindNumbered};
@@ -27,6 +39,17 @@ pub struct Numbers {
     pub ack: u32,
     pub resultid: u32,
 }
+
+const NO_NUMBERS: Numbers = Numbers {
+    request: 0,
+    response: 0,
+    endrequest: 0,
+    endresponse: 0,
+    txend: 0,
+    txendresponse: 0,
+    ack: 0,
+    resultid: 0,
+};
 
 // What every message has: its sender's SSRC, and whether it asks for an Ack.
 pub struct Head {
@@ -111,6 +134,25 @@ pub fn numbers_of(sheet: Sheet) -> Numbers
     }
 }
 
+// The same of numbers that are lent; zeros where there are not as many as a sheet has.
+fn numbers_in(numbers: &[u32]) -> Numbers
+    ensures { λ r. ⌜ numbers-of≡ (sheetIn (now (numbers .entry))) r ⌝ }
+{
+    if numbers.len() != LINES {
+        return NO_NUMBERS;
+    }
+    Numbers {
+        request: numbers[REQUEST],
+        response: numbers[RESPONSE],
+        endrequest: numbers[END_REQUEST],
+        endresponse: numbers[END_RESPONSE],
+        txend: numbers[TX_END],
+        txendresponse: numbers[TX_END_RESPONSE],
+        ack: numbers[ACK],
+        resultid: numbers[RESULT_ID],
+    }
+}
+
 // A refusal by its number alone.
 fn refused(number: u32) -> Reading
     ensures { λ r. ⌜ readSaid r ≡ refused number 0 ⌝ }
@@ -153,13 +195,27 @@ pub fn read_by(numbers: Numbers, packet: &[u8]) -> Reading
     read_kind(numbers, packet, kind, head)
 }
 
-// Reads a packet: a message, or 12 line 0, 1, 2, 3, 4 or 5, checked in that order.
+// The same, a sheet's numbers lent.
+pub fn read_by_lent(numbers: &[u32], packet: &[u8]) -> Reading
+    ensures { λ r. ⌜ read-by≡ (numbersOf (sheetIn (now (numbers .entry)))) (now (packet .entry)) r ⌝ }
+{
+    read_by(numbers_in(&numbers[..]), &packet[..])
+}
+
+// Reads a packet, a sheet's numbers lent: a message, or 12 line 0, 1, 2, 3, 4 or 5, checked in that order.
+pub fn read_lent(numbers: &[u32], packet: &[u8]) -> Reading
+    ensures { λ r. ⌜ read≡ (sheetIn (now (numbers .entry))) (now (packet .entry)) r ⌝ }
+{
+    if !are_valid(numbers) {
+        return refused(12);
+    }
+    read_by_lent(numbers, packet)
+}
+
+// The same, the sheet by value.
 pub fn read(sheet: Sheet, packet: &[u8]) -> Reading
     ensures { λ r. ⌜ read≡ sheet (now (packet .entry)) r ⌝ }
 {
     let numbers = sheet::numbers::numbers_of(sheet);
-    if !sheet::numbers::are_valid(&numbers) {
-        return refused(12);
-    }
-    read_by(numbers_of(sheet), packet)
+    read_lent(&numbers[..], packet)
 }

@@ -6,9 +6,12 @@ mod table;
 
 use sheet::Refusal;
 use sheet::Sheet;
+use sheet::numbers::are_valid;
+use sheet::numbers::numbers_of;
 use stream::Rules;
 ghost use mathlib.Core.Path.{_≡_};
 ghost use Prim.Native.Nat.{_<_, _≤_};
+ghost use Rattle.sheet.specs.Value.{sheetIn};
 ghost use Rattle.reception.specs.Record.{own};
 ghost use Rattle.reception.specs.Steps.{leaving, refusalSaid, seenSaid, attemptSaid, workedSaid, storedSaid};
 ghost use Rattle.reception.specs.Inner.{admittedSaid, admitted, ownSeen, triedOn, settledOf};
@@ -123,13 +126,13 @@ enum Admitted {
 }
 
 // What a stream is judged by, or 12 line 0, or 9 where it is not on the sheet.
-fn admit(sheet: Sheet, stream: u8) -> Admitted
-    ensures { λ r. ⌜ admittedSaid r ≡ admitted sheet stream ⌝ }
+fn admit(numbers: &[u32], stream: u8) -> Admitted
+    ensures { λ r. ⌜ admittedSaid r ≡ admitted (sheetIn (now (numbers .entry))) stream ⌝ }
 {
-    if !sheet::valid(sheet) {
+    if !are_valid(numbers) {
         return Admitted::Refused(refusal(12));
     }
-    let rules = stream::rules_of(sheet);
+    let rules = stream::rules_in(numbers);
     if !stream::is_on(rules, stream) {
         return Admitted::Refused(refusal(9));
     }
@@ -148,14 +151,22 @@ fn own_of(rules: Rules, records: Streams, stream: u8) -> Seen
     Seen::Read(own)
 }
 
-// The record of a stream, or 12 line 0 or 9.
-pub fn read(sheet: Sheet, records: Streams, stream: u8) -> Seen
-    ensures { λ r. ⌜ read≡ sheet records stream r ⌝ }
+// The record of a stream, or 12 line 0 or 9, a sheet's numbers lent.
+pub fn read_lent(numbers: &[u32], records: Streams, stream: u8) -> Seen
+    ensures { λ r. ⌜ read≡ (sheetIn (now (numbers .entry))) records stream r ⌝ }
 {
-    match admit(sheet, stream) {
+    match admit(numbers, stream) {
         Admitted::Under(rules) => own_of(rules, records, stream),
         Admitted::Refused(refusal) => Seen::Refused(refusal),
     }
+}
+
+// The same, the sheet by value.
+pub fn read(sheet: Sheet, records: Streams, stream: u8) -> Seen
+    ensures { λ r. ⌜ read≡ sheet records stream r ⌝ }
+{
+    let numbers = numbers_of(sheet);
+    read_lent(&numbers[..], records, stream)
 }
 
 // What an event makes of the record seen, or 9 where its sender is not on the sheet or the record is not legal.
@@ -182,14 +193,22 @@ fn attempt_on(rules: Rules, seen: Record, event: Event) -> Worked
     })
 }
 
-// What an event makes of the record that was seen: an attempt to store, or 12 line 0 or 9.
-pub fn work_out(sheet: Sheet, seen: Record, event: Event) -> Worked
-    ensures { λ r. ⌜ work-out≡ sheet seen event r ⌝ }
+// What an event makes of the record that was seen: an attempt to store, or 12 line 0 or 9, a sheet's numbers lent.
+pub fn work_out_lent(numbers: &[u32], seen: Record, event: Event) -> Worked
+    ensures { λ r. ⌜ work-out≡ (sheetIn (now (numbers .entry))) seen event r ⌝ }
 {
-    match admit(sheet, event.stream) {
+    match admit(numbers, event.stream) {
         Admitted::Under(rules) => attempt_on(rules, seen, event),
         Admitted::Refused(refusal) => Worked::Refused(refusal),
     }
+}
+
+// The same, the sheet by value.
+pub fn work_out(sheet: Sheet, seen: Record, event: Event) -> Worked
+    ensures { λ r. ⌜ work-out≡ sheet seen event r ⌝ }
+{
+    let numbers = numbers_of(sheet);
+    work_out_lent(&numbers[..], seen, event)
 }
 
 // The records as they were, and why.
@@ -229,22 +248,38 @@ fn settle(rules: Rules, attempt: Attempt, own: Record, records: Streams) -> Stor
 }
 
 // Stores an attempt where the stream's own record is still the one seen. The records come back, changed in that place alone or as they
-// were, with the answer, or 12 line 0, 9 or 10.
-pub fn store(sheet: Sheet, attempt: Attempt, records: Streams) -> Stored
-    ensures { λ r. ⌜ store≡ sheet attempt records r ⌝ }
+// were, with the answer, or 12 line 0, 9 or 10. A sheet's numbers are lent.
+pub fn store_lent(numbers: &[u32], attempt: Attempt, records: Streams) -> Stored
+    ensures { λ r. ⌜ store≡ (sheetIn (now (numbers .entry))) attempt records r ⌝ }
 {
-    match read(sheet, records, attempt.stream) {
-        Seen::Read(own) => settle(stream::rules_of(sheet), attempt, own, records),
+    match read_lent(numbers, records, attempt.stream) {
+        Seen::Read(own) => settle(stream::rules_in(numbers), attempt, own, records),
         Seen::Refused(refusal) => unchanged(records, refusal),
     }
 }
 
-// C11, the number of seats that watch a stream, or 12 line 0 or 9.
-pub fn count(sheet: Sheet, records: Streams, stream: u8) -> Counted
-    ensures { λ r. ⌜ count≡ sheet records stream r ⌝ }
+// The same, the sheet by value.
+pub fn store(sheet: Sheet, attempt: Attempt, records: Streams) -> Stored
+    ensures { λ r. ⌜ store≡ sheet attempt records r ⌝ }
 {
-    match read(sheet, records, stream) {
+    let numbers = numbers_of(sheet);
+    store_lent(&numbers[..], attempt, records)
+}
+
+// C11, the number of seats that watch a stream, or 12 line 0 or 9, a sheet's numbers lent.
+pub fn count_lent(numbers: &[u32], records: Streams, stream: u8) -> Counted
+    ensures { λ r. ⌜ count≡ (sheetIn (now (numbers .entry))) records stream r ⌝ }
+{
+    match read_lent(numbers, records, stream) {
         Seen::Read(own) => Counted::Count(stream::count_of(own)),
         Seen::Refused(refusal) => Counted::Refused(refusal),
     }
+}
+
+// The same, the sheet by value.
+pub fn count(sheet: Sheet, records: Streams, stream: u8) -> Counted
+    ensures { λ r. ⌜ count≡ sheet records stream r ⌝ }
+{
+    let numbers = numbers_of(sheet);
+    count_lent(&numbers[..], records, stream)
 }

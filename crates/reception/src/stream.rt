@@ -2,9 +2,12 @@
 use super::Phase;
 use super::Record;
 use super::receivers;
-use sheet::Sheet;
+use sheet::numbers::LIMIT;
+use sheet::numbers::SEATS_LINE;
 ghost use mathlib.Core.Path.{_≡_};
 ghost use Prim.Native.Nat.{_<_, _≤_};
+ghost use lib.ListN.{length};
+ghost use Rattle.sheet.specs.Value.{sheetFrom};
 ghost use Rattle.reception.specs.Record.{free, idle, watched, ending, phaseNumber, count, sameRecord, goodReceivers, legal, onSheet, rulesOf};
 
 // What the rules of reception look at on a sheet.
@@ -13,12 +16,13 @@ pub struct Rules {
     pub seats: u32,
 }
 
-pub fn rules_of(sheet: Sheet) -> Rules
-    ensures { λ r. ⌜ r ≡ rulesOf sheet ⌝ }
+pub fn rules_in(numbers: &[u32]) -> Rules
+    requires { ⌜ length (now numbers) ≡ 19 ⌝ }
+    ensures { λ r. ⌜ r ≡ rulesOf (sheetFrom (now (numbers .entry))) ⌝ }
 {
     Rules {
-        limit: sheet.limit,
-        seats: sheet.seats,
+        limit: numbers[LIMIT],
+        seats: numbers[SEATS_LINE],
     }
 }
 

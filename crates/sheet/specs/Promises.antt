@@ -13,7 +13,7 @@ use Rattle.sheet.specs.declared.Senders.{Senders}
 use Rattle.sheet.specs.declared.Found.{Found}
 use Rattle.sheet.specs.declared.Found.the-variants.{Seat, Nobody}
 use Rattle.sheet.specs.Judge.{userId}
-use Rattle.sheet.specs.Value.{readOf, usersIn, nameOf, numbersOf, sheetFrom, validAlone, validWith}
+use Rattle.sheet.specs.Value.{readOf, usersIn, nameOf, numbersOf, sheetIn, validAlone, validWith}
 use Rattle.sheet.specs.Find.{foundSaid, seatOfSsrc, seatOfUser}
 
 -- the value and the octets used, or 12 with its line
@@ -53,14 +53,14 @@ numbers-of-once sheet x y p q = one-value x y p q
 
 -- some sheet reads to the struct with these numbers
 abbrev pub are-valid≡ : List ℕ → Bool → Type 0
-are-valid≡ numbers r = r ≡ validAlone (sheetFrom numbers)
+are-valid≡ numbers r = r ≡ validAlone (sheetIn numbers)
 
 pub are-valid-once : (numbers : List ℕ) (x y : Bool) → are-valid≡ numbers x → are-valid≡ numbers y → x ≡ y
 are-valid-once numbers x y p q = one-value x y p q
 
 -- .. and to these User IDs
 abbrev pub are-valid-with≡ : List ℕ → List (List ℕ) → Bool → Type 0
-are-valid-with≡ numbers users r = r ≡ validWith (sheetFrom numbers) users
+are-valid-with≡ numbers users r = r ≡ validWith (sheetIn numbers) users
 
 pub are-valid-with-once : (numbers : List ℕ) (users : List (List ℕ)) (x y : Bool) → are-valid-with≡ numbers users x → are-valid-with≡ numbers users y → x ≡ y
 are-valid-with-once numbers users x y p q = one-value x y p q

@@ -1,11 +1,11 @@
 -- The value of a call sheet: the struct and the User IDs beside it (document 01, "Call sheet": "Each user's identity is held
 -- at fixed width, eight rows of 60 octets, unused octets zero, unused SSRCs 0"). Assumes nothing.
-use Prim.Native.Nat.{ℕ}
+use Prim.Native.Nat.{ℕ, _+_}
 use mathlib.Core.Bool.{Bool, true, false, not, _&&_}
 use mathlib.Core.List.{List, [], _∷_, _++_, map}
 use lib.ListN.{length, getD, take, drop}
 use lib.Dec.{eqb}
-use Rattle.octets.specs.Choice.{same, front}
+use Rattle.octets.specs.Choice.{pick, same, front}
 use Rattle.octets.specs.Buffer.{padded}
 use Rattle.sheet.specs.declared.Sheet.{Sheet}
 use Rattle.sheet.specs.declared.Refusal.{Refusal}
@@ -38,6 +38,10 @@ sheetBy n ssrcs =
 -- the numbers in the order of the lines, those of the seats the SSRCs
 unfoldable pub sheetFrom : List ℕ → Sheet
 sheetFrom ns = sheetBy (λ (k : ℕ). getD ns k 0) (padded mostSeats 0 (drop numberLines ns))
+
+-- The same of numbers that are lent to a call: as many as a sheet has with eight seats. Any other count stands for no sheet, as zeros do.
+unfoldable pub sheetIn : List ℕ → Sheet
+sheetIn ns = sheetFrom (pick (eqb (length ns) (numberLines + mostSeats)) ns [])
 
 unfoldable pub sheetOf : List Entry → Sheet
 sheetOf es = sheetFrom (numbersIn es)

@@ -89,7 +89,7 @@ pub fn valid(sheet: Sheet) -> bool
     ensures { λ r. ⌜ valid≡ sheet r ⌝ }
 {
     let numbers = numbers::numbers_of(sheet);
-    numbers::are_valid(&numbers)
+    numbers::are_valid(&numbers[..])
 }
 
 // Whether some sheet reads to this struct and these User IDs.

@@ -1,9 +1,6 @@
 // One number of a sheet, by the table's bounds and families (document 01, "Call sheet").
-use super::numbers::Numbers;
 use super::table::rule_of;
 ghost use mathlib.Core.Path.{_≡_};
-ghost use Prim.Native.Nat.{_<_};
-ghost use lib.ListN.{take};
 ghost use Rattle.sheet.specs.Judge.{taken, goodNumber};
 ghost use Rattle.sheet.specs.Inner.{NoneBefore};
 
@@ -25,14 +22,11 @@ fn is_taken(earlier: &[u32], family: u8, eldest: usize, n: u32) -> bool
     false
 }
 
-// Whether a number may stand on line k behind the first k of these.
-pub fn is_good_number(numbers: &Numbers, k: usize, n: u64) -> bool
-    requires { ⌜ k < 19 ⌝ }
-    ensures { λ r. ⌜ r ≡ goodNumber (take k (now (numbers .entry))) n ⌝ }
+// Whether a number may stand on the line behind these, the first of a sheet.
+pub fn is_good_number(earlier: &[u32], n: u64) -> bool
+    ensures { λ r. ⌜ r ≡ goodNumber (now (earlier .entry)) n ⌝ }
 {
-    let all = &numbers[..];
-    let earlier = &all[..k];
-    let rule = rule_of(k);
+    let rule = rule_of(earlier.len());
     if n < rule.least {
         return false;
     }

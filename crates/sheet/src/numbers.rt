@@ -5,16 +5,20 @@ use super::Sheet;
 use super::Users;
 use super::number::is_good_number;
 use super::seat::are_good_rows;
-use super::table::LINES;
 use super::table::NUMBER_LINES;
 ghost use Rattle.sheet.specs.Promises.{numbers-of≡, are-valid≡, are-valid-with≡};
 
+// How many there are.
+pub const LINES: usize = super::table::LINES;
+
 pub type Numbers = [u32; LINES];
 
-// The lines of the server's SSRC, of the messages' numbers and of the Result's ID, counted from 0.
+// The lines of the server's SSRC, of the limit, of the messages' numbers and of the Result's ID, counted from 0.
 pub const SERVER: usize = 0;
 
-pub const REQUEST: usize = 2;
+pub const LIMIT: usize = SERVER + 1;
+
+pub const REQUEST: usize = LIMIT + 1;
 
 pub const RESPONSE: usize = REQUEST + 1;
 
@@ -33,21 +37,23 @@ pub const RESULT_ID: usize = ACK + 1;
 // The last of the lines with a number alone, which says how many seats follow.
 pub const SEATS_LINE: usize = NUMBER_LINES - 1;
 
-// Whether some sheet reads to the struct with these numbers.
-pub fn are_valid(numbers: &Numbers) -> bool
+// Whether there are as many as a sheet has, and some sheet reads to the struct with them.
+pub fn are_valid(numbers: &[u32]) -> bool
     ensures { λ r. ⌜ are-valid≡ (now (numbers .entry)) r ⌝ }
 {
-    let all = &numbers[..];
-    let seats = all[SEATS_LINE];
+    if numbers.len() != LINES {
+        return false;
+    }
+    let seats = numbers[SEATS_LINE];
     if MOST_SEATS < seats {
         return false;
     }
     let lines = NUMBER_LINES + (seats as usize);
     let mut k = 0;
     while k < LINES {
-        let n = all[k];
+        let n = numbers[k];
         if k < lines {
-            if !is_good_number(numbers, k, n as u64) {
+            if !is_good_number(&numbers[..k], n as u64) {
                 return false;
             }
         } else if n != 0 {
@@ -58,15 +64,14 @@ pub fn are_valid(numbers: &Numbers) -> bool
     true
 }
 
-// Whether some sheet reads to the struct with these numbers and to these User IDs.
-pub fn are_valid_with(numbers: &Numbers, users: &Users) -> bool
+// Whether they are valid and some sheet reads to the struct with them and to these User IDs.
+pub fn are_valid_with(numbers: &[u32], users: &Users) -> bool
     ensures { λ r. ⌜ are-valid-with≡ (now (numbers .entry)) (now (users .entry)) r ⌝ }
 {
     if !are_valid(numbers) {
         return false;
     }
-    let all = &numbers[..];
-    are_good_rows(users, all[SEATS_LINE])
+    are_good_rows(users, numbers[SEATS_LINE])
 }
 
 // The numbers of a sheet.

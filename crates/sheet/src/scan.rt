@@ -27,7 +27,8 @@ fn judged(text: &[u8], at: usize, k: usize, numbers: &Numbers, users: &Users) ->
     match found {
         Line::Bad => Line::Bad,
         Line::Good { number, name, end } => {
-            if !is_good_number(numbers, k, number) {
+            let all = &numbers[..];
+            if !is_good_number(&all[..k], number) {
                 return Line::Bad;
             }
             if k < NUMBER_LINES {

@@ -6,7 +6,6 @@ use mathlib.Core.List.{List}
 use lib.ListN.{length}
 use Rattle.octets.specs.Promises.{one-answer, one-value}
 use Rattle.sheet.specs.declared.Sheet.{Sheet}
-use Rattle.sheet.specs.Value.{sheetFrom}
 use Rattle.packet.specs.declared.Message.{Message}
 use Rattle.packet.specs.Message.{messageSaid}
 use Rattle.writing.specs.declared.Writing.{Writing}
@@ -36,12 +35,12 @@ answered-once w out x y now other e f =
 
 -- the number of octets written under these numbers or the refusal, and the buffer
 abbrev pub write-by≡ : List ℕ → Message → List ℕ → List ℕ → Writing → List ℕ → Type 0
-write-by≡ numbers m names out r now = Answered (writeBy (sheetFrom numbers) (messageSaid m) names (length out)) out r now
+write-by≡ numbers m names out r now = Answered (writeBy numbers (messageSaid m) names (length out)) out r now
 
 pub write-by-once : (numbers : List ℕ) (m : Message) (names out : List ℕ) (x y : Writing) (now other : List ℕ)
     → write-by≡ numbers m names out x now → write-by≡ numbers m names out y other → (x ≡ y) × (now ≡ other)
 write-by-once numbers m names out x y now other e f =
-    answered-once (writeBy (sheetFrom numbers) (messageSaid m) names (length out)) out x y now other e f
+    answered-once (writeBy numbers (messageSaid m) names (length out)) out x y now other e f
 
 -- ---- write
 

@@ -1,15 +1,16 @@
 -- Writing a message (document 01, "Packet", and "Refusals": 12 line 0, 5, 11, in that order; "changes no lent octet"). Assumes nothing.
 use mathlib.Core.Path.{_≡_}
-use Prim.Native.Nat.{ℕ}
+use Prim.Native.Nat.{ℕ, _+_}
 use mathlib.Core.Bool.{Bool, _&&_}
 use mathlib.Core.List.{List}
 use mathlib.Core.Option.{Option, none, some}
 use lib.ListN.{length}
-use lib.Dec.{leb, ltb}
+use lib.Dec.{eqb, leb, ltb}
 use Rattle.octets.specs.Choice.{pick, every}
 use Rattle.octets.specs.Buffer.{over}
 use Rattle.sheet.specs.declared.Sheet.{Sheet}
-use Rattle.sheet.specs.Value.{validAlone}
+use Rattle.sheet.specs.Table.{numberLines, mostSeats}
+use Rattle.sheet.specs.Value.{sheetFrom, validAlone}
 use Rattle.packet.specs.declared.Numbers.{Numbers}
 use Rattle.packet.specs.Kind.{Row, Kind, kinds, numbersOf}
 use Rattle.packet.specs.Reading.{Outcome}
@@ -46,9 +47,13 @@ writeOf s message names room = pick (validAlone s) (madeOf s message names room)
 unfoldable pub fits : Numbers → Bool
 fits n = every (λ (k : Kind). ltb (k .number) 16 && every (λ (r : Row). ltb (r .id) 192) (k .rows)) (kinds n)
 
+-- as many as a sheet has, and of these it holds
+unfoldable pub fitting : List ℕ → Bool
+fitting ns = eqb (length ns) (numberLines + mostSeats) && fits (numbersOf (sheetFrom ns))
+
 -- The same where the caller has judged the sheet: 12 is left to it, but for numbers that go into no packet.
-unfoldable pub writeBy : Sheet → Outcome → List ℕ → ℕ → Made
-writeBy s message names room = pick (fits (numbersOf s)) (madeOf s message names room) (refused 12 0)
+unfoldable pub writeBy : List ℕ → Outcome → List ℕ → ℕ → Made
+writeBy ns message names room = pick (fitting ns) (madeOf (sheetFrom ns) message names room) (refused 12 0)
 
 -- ---- what is answered, and what the buffer holds
 

@@ -9,8 +9,9 @@ use packet::codes::FIRST_FIELD;
 use parts::Plan;
 use sheet::Refusal;
 use sheet::Sheet;
-use sheet::numbers::Numbers;
+use sheet::numbers::are_valid;
 ghost use mathlib.Core.Path.{_≡_};
+ghost use Rattle.sheet.specs.Value.{sheetIn};
 ghost use Rattle.writing.specs.Writing.{refusedWith, writingSaid};
 ghost use Rattle.writing.specs.Inner.{PlanWritten};
 ghost use Rattle.writing.specs.Promises.{write-by≡, write≡};
@@ -46,22 +47,31 @@ fn write_plan(plan: Plan, names: &[u8], out: &mut [u8]) -> Writing
 
 // Writes a message under these numbers: how many octets, or 12 line 0 where they go into no packet, 5 or 11, checked in that order.
 // Whether a sheet has them is not asked.
-pub fn write_by(numbers: &Numbers, message: Message, names: &[u8], out: &mut [u8]) -> Writing
+pub fn write_by(numbers: &[u32], message: Message, names: &[u8], out: &mut [u8]) -> Writing
     ensures { λ r. ⌜ write-by≡ (now (numbers .entry)) message (now (names .entry)) (now (out .entry)) r (now (out .exit)) ⌝ }
 {
-    if !messages::fit(numbers) {
+    let all = &numbers[..];
+    if !messages::fit(all) {
         return refused(12);
     }
-    write_plan(messages::plan_of(numbers, message), names, out)
+    write_plan(messages::plan_of(all, message), &names[..], out)
 }
 
-// Writes a message whose names lie in `names` into the front of `out`: how many octets, or 12 line 0, 5 or 11, checked in that order.
+// Writes a message whose names lie in `names` into the front of `out`, a sheet's numbers lent: how many octets, or 12 line 0, 5 or 11, checked in
+// that order.
+pub fn write_lent(numbers: &[u32], message: Message, names: &[u8], out: &mut [u8]) -> Writing
+    ensures { λ r. ⌜ write≡ (sheetIn (now (numbers .entry))) message (now (names .entry)) (now (out .entry)) r (now (out .exit)) ⌝ }
+{
+    if !are_valid(numbers) {
+        return refused(12);
+    }
+    write_by(numbers, message, names, out)
+}
+
+// The same, the sheet by value.
 pub fn write(sheet: Sheet, message: Message, names: &[u8], out: &mut [u8]) -> Writing
     ensures { λ r. ⌜ write≡ sheet message (now (names .entry)) (now (out .entry)) r (now (out .exit)) ⌝ }
 {
     let numbers = sheet::numbers::numbers_of(sheet);
-    if !sheet::numbers::are_valid(&numbers) {
-        return refused(12);
-    }
-    write_by(&numbers, message, names, out)
+    write_lent(&numbers[..], message, names, out)
 }

@@ -15,7 +15,7 @@ use packet::codes::SOURCE;
 use sheet::numbers::ACK;
 use sheet::numbers::END_REQUEST;
 use sheet::numbers::END_RESPONSE;
-use sheet::numbers::Numbers;
+use sheet::numbers::LINES;
 use sheet::numbers::REQUEST;
 use sheet::numbers::RESPONSE;
 use sheet::numbers::RESULT_ID;
@@ -25,9 +25,8 @@ ghost use mathlib.Core.Path.{_≡_};
 ghost use Prim.Native.Nat.{_<_};
 ghost use lib.Dec.{T};
 ghost use Rattle.sheet.specs.Value.{sheetFrom};
-ghost use Rattle.packet.specs.Kind.{numbersOf};
 ghost use Rattle.writing.specs.Packet.{firstOctet};
-ghost use Rattle.writing.specs.Writing.{fits};
+ghost use Rattle.writing.specs.Writing.{fitting};
 ghost use Rattle.writing.specs.Inner.{numberPart, indicatorPart, resultPart, causePart, planWith, planFor, indicatorWithin, verdictWithin, inWidth};
 
 // Version 2 and padding bit 0, in the first octet.
@@ -42,19 +41,22 @@ const NUMBER_END: u32 = 16;
 // No ID is as great.
 const ID_END: u32 = packet::codes::ID_END as u32;
 
-// Whether the messages' numbers and the Result's ID go into their places in a packet. The messages' lines stand together, the Result's ID behind them.
-pub fn fit(numbers: &Numbers) -> bool
-    ensures { λ r. ⌜ r ≡ fits (numbersOf (sheetFrom (now (numbers .entry)))) ⌝ }
+// Whether there are as many as a sheet has, and the messages' numbers and the Result's ID go into their places in a packet. The messages' lines stand
+// together, the Result's ID behind them.
+pub fn fit(numbers: &[u32]) -> bool
+    ensures { λ r. ⌜ r ≡ fitting (now (numbers .entry)) ⌝ }
 {
-    let all = &numbers[..];
+    if numbers.len() != LINES {
+        return false;
+    }
     let mut k = REQUEST;
     while k < RESULT_ID {
-        if NUMBER_END <= all[k] {
+        if NUMBER_END <= numbers[k] {
             return false;
         }
         k += 1;
     }
-    all[RESULT_ID] < ID_END
+    numbers[RESULT_ID] < ID_END
 }
 
 // A field with a number: ID octet, length octet 2 and the number are one word.
@@ -124,8 +126,8 @@ fn plan_with(head: Head, letters: u32, number: u32, first: Part, second: Part, t
 }
 
 // The plan of a message under these numbers.
-pub fn plan_of(numbers: &Numbers, message: Message) -> Plan
-    requires { ⌜ T (fits (numbersOf (sheetFrom (now numbers)))) ⌝ }
+pub fn plan_of(numbers: &[u32], message: Message) -> Plan
+    requires { ⌜ T (fitting (now numbers)) ⌝ }
     ensures { λ r. ⌜ (r ≡ planFor (sheetFrom (now (numbers .entry))) message) × T (inWidth message) ⌝ }
 {
     match message {

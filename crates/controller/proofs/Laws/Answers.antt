@@ -11,16 +11,15 @@ use lib.Dec.{T}
 use borrow.Author.Tests.{le-leb, lt-ltb, le-ltb}
 use Rattle.octets.proofs.Choice.{T-true}
 use Rattle.sheet.specs.declared.Sheet.{Sheet}
-use Rattle.sheet.specs.Value.{nameOf, validWith}
+use Rattle.sheet.specs.Value.{nameOf, sheetFrom, validWith}
 use Rattle.sheet.proofs.Laws.Rows.{length-nameOf-le, take-nameOf}
 use Rattle.packet.specs.declared.Message.{Message}
-use Rattle.packet.specs.Kind.{numbersOf}
 use Rattle.packet.specs.Message.{messageSaid}
 use Rattle.packet.specs.Judge.{named}
 use Rattle.writing.specs.declared.Writing.{Writing}
 use Rattle.writing.specs.Meaning.{spelt, valueIn, meaning}
 use Rattle.writing.specs.Writing as writing
-use Rattle.writing.specs.Writing.{Made, made, refused, fits, roomFor, packetFor, writeBy, writingSaid, Answered}
+use Rattle.writing.specs.Writing.{Made, made, refused, fitting, roomFor, packetFor, writeBy, writingSaid, Answered}
 use Rattle.reception.specs.declared.Answer.{Answer}
 use Rattle.reception.specs.declared.Answer.the-variants.{GrantedFirst, Granted, GrantedAgain, Rejected, Ended, EndedLast, Opened, EndRequested, Freed, FreedWithAck, ReleasedIdle, ReleasedWatched, ReleasedEnding, Discarded}
 use Rattle.reception.specs.Answer.{Sent, messageOf}
@@ -72,21 +71,23 @@ unfolding after writing.after
 after-parcel (made p) out = refl
 after-parcel (refused number at) out = refl
 
-module _ (s : Sheet) (row : List ℕ) (a : Answer) (out : List ℕ) where
+module _ (row : List ℕ) (a : Answer) (out : List ℕ) where
   -- a message goes out: what the writer answers is what the answer sends
-  pub sends-message : T (fits (numbersOf s)) → (m : Message) (w : Writing) (r : Sending) (now : List ℕ)
-      → outgoingOf (s .server) (length (nameOf row)) a ≡ Outgoes m → Answered (writeBy s (messageSaid m) row (length out)) out w now
-      → sendingSaid r ≡ sendingFrom (writingSaid w) → SentFrom s row (messageOf a) out r now
+  pub sends-message : (ns : List ℕ) → T (fitting ns) → (m : Message) (w : Writing) (r : Sending) (now : List ℕ)
+      → outgoingOf (sheetFrom ns .server) (length (nameOf row)) a ≡ Outgoes m → Answered (writeBy ns (messageSaid m) row (length out)) out w now
+      → sendingSaid r ≡ sendingFrom (writingSaid w) → SentFrom (sheetFrom ns) row (messageOf a) out r now
   unfolding writeBy
-  sends-message t m w r now e put said =
-      let made = writeBy s (messageSaid m) row (length out) in
+  sends-message ns t m w r now e put said =
+      let s = sheetFrom ns in
+      let made = writeBy ns (messageSaid m) row (length out) in
       let is : parcelOf s (nameOf row) (length out) (messageOf a) ≡ parcel made =
-      sends s row (length out) a ∙ ap (parcelOut s row (length out)) e ∙ rw (T-true (fits (numbersOf s)) t) in
+      sends s row (length out) a ∙ ap (parcelOut s row (length out)) e ∙ rw (T-true (fitting ns) t) in
       rw is (said ∙ ap sendingFrom (put .0) ∙ sym (told-parcel made), put .1 ∙ sym (after-parcel made out))
 
   -- none does
-  pub sends-nothing : outgoingOf (s .server) (length (nameOf row)) a ≡ Nothing → parcelOf s (nameOf row) (length out) (messageOf a) ≡ gives none
-  sends-nothing e = sends s row (length out) a ∙ ap (parcelOut s row (length out)) e
+  pub sends-nothing : (s : Sheet) → outgoingOf (s .server) (length (nameOf row)) a ≡ Nothing
+      → parcelOf s (nameOf row) (length out) (messageOf a) ≡ gives none
+  sends-nothing s e = sends s row (length out) a ∙ ap (parcelOut s row (length out)) e
 
 -- ---- the checks
 

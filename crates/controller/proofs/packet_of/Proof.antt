@@ -1,19 +1,22 @@
--- `controller::packet_of` meets its contract: the struct with the sheet's numbers is the sheet. Assumes nothing.
-use mathlib.Core.Path.{_≡_, ap, _∙_}
+-- `controller::packet_of` meets its contract: the sheet's numbers, lent, stand for it. Assumes nothing.
+use mathlib.Core.Path.{_≡_}
 use borrow.Author.Needs.{needs}
 use Rattle.sheet.specs.Table.{mostSeats}
-use Rattle.sheet.specs.Value.{sheetFrom}
-use Rattle.sheet.proofs.Laws.Values.{sheetFrom-own}
+use Rattle.sheet.specs.Value.{sheetIn}
+use Rattle.sheet.proofs.Laws.Values.{sheetIn-own}
 use Rattle.controller.proofs.packet_of.Statement.{statement}
 use Rattle.controller.proofs.packet_of.Tie as tie
 
--- the struct with the numbers
-own : (c : tie.After-numbers-of) → sheetFrom (c .numbers-of .result) ≡ c .before .before .args .sheet
+-- the sheet is the one that they stand for
+own : (c : tie.After-numbers-of) → sheetIn (c .numbers-of .result) ≡ c .before .before .args .sheet
 unfolding mostSeats
-own c = ap sheetFrom (c .numbers-of .ensures) ∙ sheetFrom-own _ (search needs)
+own c = sheetIn-own _ _ (search needs) (c .numbers-of .ensures)
 
 numbers-of-requires : tie.Need-numbers-of-requires
 numbers-of-requires c κs = search needs
+
+slice-aggregate-packet-lent : tie.Need-slice-aggregate-packet-lent
+slice-aggregate-packet-lent c = search needs
 
 packet-lent-requires : tie.Need-packet-lent-requires
 packet-lent-requires c κs = search needs
@@ -27,4 +30,4 @@ returns c =
     rw (own (sent .before .before .before .before)) at (sent .packet-lent .ensures)
 
 pub packet-of-spec : {M : Type 1} → statement M
-packet-of-spec = tie.close (tie.spec numbers-of-requires packet-lent-requires same-length returns)
+packet-of-spec = tie.close (tie.spec numbers-of-requires slice-aggregate-packet-lent packet-lent-requires same-length returns)

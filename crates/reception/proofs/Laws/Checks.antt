@@ -1,10 +1,14 @@
--- Laws of the checks that the steps have in common. Assumes nothing.
-use mathlib.Core.Path.{_≡_, refl, sym, ap, _∙_}
+-- Laws of the checks that the steps have in common, and of a sheet's numbers that are lent to them. Assumes nothing.
+use mathlib.Core.Path.{_≡_, refl, sym, ap, _∙_, subst}
 use mathlib.Core.Bool.{Bool, true, false, _&&_, and-assoc}
 use mathlib.Core.List.{List}
 use Prim.Native.Nat.{ℕ, _<_, _≤_}
+use lib.ListN.{length}
 use Rattle.sheet.specs.declared.Sheet.{Sheet}
-use Rattle.sheet.specs.Value.{validAlone}
+use Rattle.sheet.specs.Table.{mostSeats}
+use Rattle.sheet.specs.Value.{sheetFrom, sheetIn, validAlone}
+use Rattle.sheet.specs.Promises.{numbers-of≡}
+use Rattle.sheet.proofs.Laws.Values.{sheetIn-counted, valid-counted, sheetIn-own}
 use Rattle.reception.specs.declared.Record.{Record}
 use Rattle.reception.specs.declared.Event.{Event}
 use Rattle.reception.specs.declared.Admitted.{Admitted}
@@ -93,3 +97,18 @@ pub store-refused : (s : Sheet) (a : Try) (rs : List Record) (number at : ℕ)
     → seenOf s (a .stream) (own rs (a .stream)) ≡ refuses number at → storeOf s a rs ≡ leaving rs (refuses number at)
 unfolding storeOf stored
 store-refused s a rs number at e = rw (reply-past s a (own rs (a .stream)), e)
+
+-- ---- numbers that are lent
+
+-- a read that gave a record: they are nineteen ..
+pub seen-counted : (ns : List ℕ) (stream : ℕ) (x y : Record) → seenOf (sheetIn ns) stream x ≡ gives y → length ns ≡ 19
+seen-counted ns stream x y p = valid-counted ns (seen-gives (sheetIn ns) stream x y p .valid)
+
+-- .. and the rules in them are those of the sheet they stand for
+pub rules-lent : (ns : List ℕ) (q : Rules) → length ns ≡ 19 → q ≡ rulesOf (sheetFrom ns) → q ≡ rulesOf (sheetIn ns)
+rules-lent ns q long e = e ∙ ap rulesOf (sym (sheetIn-counted ns long))
+
+-- what holds of the sheet that a struct's own numbers stand for holds of the struct
+pub lent-own : (P : Sheet → Type 0) (s : Sheet) (ns : List ℕ) → length (s .ssrcs) ≡ 8 → numbers-of≡ s ns → P (sheetIn ns) → P s
+unfolding mostSeats
+lent-own P s ns eight e p = subst P (sheetIn-own s ns eight e) p

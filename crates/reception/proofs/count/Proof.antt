@@ -1,37 +1,26 @@
--- `reception::count` meets its contract: it counts what a read gives, and refuses what a read refuses. Assumes nothing.
-use mathlib.Core.Path.{ap, _∙_}
+-- `reception::count` meets its contract: it is `count_lent` of the sheet's own numbers (`lent-own`). Assumes nothing.
 use borrow.Author.Needs.{needs}
-use Rattle.reception.specs.Steps.{counted, countOf, seenSaid}
-use Rattle.reception.proofs.Laws.Checks.{read-said}
+use Rattle.sheet.specs.declared.Sheet.{Sheet}
+use Rattle.reception.specs.Promises.{count≡}
+use Rattle.reception.proofs.Laws.Checks.{lent-own}
 use Rattle.reception.proofs.count.Statement.{statement}
 use Rattle.reception.proofs.count.Tie as tie
 
-read-requires : tie.Need-read-requires
-read-requires c κs = search needs
+numbers-of-requires : tie.Need-numbers-of-requires
+numbers-of-requires c κs = search needs
 
-enum-known-own : tie.Need-enum-known-own
-enum-known-own c = search needs
+slice-aggregate-count-lent : tie.Need-slice-aggregate-count-lent
+slice-aggregate-count-lent c = search needs
 
-count-of-requires : tie.Need-count-of-requires
-count-of-requires c κs = search needs
-
-enum-known-refusal : tie.Need-enum-known-refusal
-enum-known-refusal c = search needs
+count-lent-requires : tie.Need-count-lent-requires
+count-lent-requires c κs = search needs
 
 returns : tie.Need-returns
-unfolding counted countOf
 returns c =
-    let opened = c .before .before in
-    let read = opened .before .before .read in
-    rw (read-said _ _ _ (read .result) (read .ensures) ∙ ap seenSaid (opened .own .given .1), c .count-of .ensures)
-
-returns-2 : tie.Need-returns-2
-unfolding counted countOf
-returns-2 c =
-    let read = c .before .before .before .read in
-    rw (read-said _ _ _ (read .result) (read .ensures) ∙ ap seenSaid (c .before .refusal .given .1))
+    let a = c .before .before .before .args in
+    let lent = c .count-lent in
+    lent-own (λ (s : Sheet). count≡ s (a .records) (a .stream) (lent .result))
+    (a .sheet) _ (search needs) (c .before .before .numbers-of .ensures) (lent .ensures)
 
 pub count-spec : {M : Type 1} → statement M
-count-spec =
-    tie.close
-    (tie.spec read-requires enum-known-own count-of-requires enum-known-refusal returns returns-2)
+count-spec = tie.close (tie.spec numbers-of-requires slice-aggregate-count-lent count-lent-requires returns)

@@ -1,44 +1,26 @@
--- `reception::read` meets its contract: past the checks of the sheet and the stream (`seen-past`) the own record is judged. Assumes nothing.
-use mathlib.Core.Path.{sym, ap, _∙_}
+-- `reception::read` meets its contract: it is `read_lent` of the sheet's own numbers (`lent-own`). Assumes nothing.
 use borrow.Author.Needs.{needs}
-use Rattle.reception.specs.Steps.{readOf}
-use Rattle.reception.specs.Inner.{admittedSaid}
-use Rattle.reception.proofs.Laws.Checks.{Admits, under-admits, seen-past}
+use Rattle.sheet.specs.declared.Sheet.{Sheet}
+use Rattle.reception.specs.Promises.{read≡}
+use Rattle.reception.proofs.Laws.Checks.{lent-own}
 use Rattle.reception.proofs.read.Statement.{statement}
 use Rattle.reception.proofs.read.Tie as tie
 
-admit-requires : tie.Need-admit-requires
-admit-requires c κs = search needs
+numbers-of-requires : tie.Need-numbers-of-requires
+numbers-of-requires c κs = search needs
 
-enum-known-rules : tie.Need-enum-known-rules
-enum-known-rules c = search needs
+slice-aggregate-read-lent : tie.Need-slice-aggregate-read-lent
+slice-aggregate-read-lent c = search needs
 
--- where the stream is admitted, by which rules
-admits : (c : tie.After-known-told)
-    → let a = c .before .before .before .before .args in
-    Admits (a .sheet) (a .stream) (c .before .rules .given .0 .0)
-admits c = under-admits _ _ _ _ (c .before .before .before .admit .ensures) (c .before .rules .given .1)
-
-own-of-requires : tie.Need-own-of-requires
-own-of-requires c κs = admits c .fits
-
-enum-known-refusal : tie.Need-enum-known-refusal
-enum-known-refusal c = search needs
+read-lent-requires : tie.Need-read-lent-requires
+read-lent-requires c κs = search needs
 
 returns : tie.Need-returns
-unfolding readOf
 returns c =
-    let known = c .before in
-    let admit = known .before .before .before in
-    rw (seen-past _ _ _, sym (admit .admit .ensures) ∙ ap admittedSaid (known .before .rules .given .1), admits known .same, c .own-of .ensures)
-
-returns-2 : tie.Need-returns-2
-unfolding readOf
-returns-2 c =
-    let admit = c .before .before .before in
-    rw (seen-past _ _ _, sym (admit .admit .ensures) ∙ ap admittedSaid (c .before .refusal .given .1))
+    let a = c .before .before .before .args in
+    let lent = c .read-lent in
+    lent-own (λ (s : Sheet). read≡ s (a .records) (a .stream) (lent .result))
+    (a .sheet) _ (search needs) (c .before .before .numbers-of .ensures) (lent .ensures)
 
 pub read-spec : {M : Type 1} → statement M
-read-spec =
-    tie.close
-    (tie.spec admit-requires enum-known-rules own-of-requires enum-known-refusal returns returns-2)
+read-spec = tie.close (tie.spec numbers-of-requires slice-aggregate-read-lent read-lent-requires returns)

@@ -1,50 +1,26 @@
--- `reception::work_out` meets its contract: past the checks of the sheet and the stream (`attempt-past`) the event is tried. Assumes nothing.
-use mathlib.Core.Path.{sym, ap, _∙_}
+-- `reception::work_out` meets its contract: it is `work_out_lent` of the sheet's own numbers (`lent-own`). Assumes nothing.
 use borrow.Author.Needs.{needs}
-use Rattle.reception.specs.Steps.{workOf}
-use Rattle.reception.specs.Inner.{admittedSaid}
-use Rattle.reception.proofs.Laws.Checks.{Admits, under-admits, attempt-past}
+use Rattle.sheet.specs.declared.Sheet.{Sheet}
+use Rattle.reception.specs.Promises.{work-out≡}
+use Rattle.reception.proofs.Laws.Checks.{lent-own}
 use Rattle.reception.proofs.work_out.Statement.{statement}
 use Rattle.reception.proofs.work_out.Tie as tie
 
-admit-requires : tie.Need-admit-requires
-admit-requires c κs = search needs
+numbers-of-requires : tie.Need-numbers-of-requires
+numbers-of-requires c κs = search needs
 
-enum-known-rules : tie.Need-enum-known-rules
-enum-known-rules c = search needs
+slice-aggregate-work-out-lent : tie.Need-slice-aggregate-work-out-lent
+slice-aggregate-work-out-lent c = search needs
 
--- where the stream is admitted, by which rules
-admits : (c : tie.After-known-told)
-    → let a = c .before .before .before .before .args in
-    Admits (a .sheet) (a .event .stream) (c .before .rules .given .0 .0)
-admits c = under-admits _ _ _ _ (c .before .before .before .admit .ensures) (c .before .rules .given .1)
-
-attempt-on-requires : tie.Need-attempt-on-requires
-attempt-on-requires c κs = admits c .fits
-
-enum-known-refusal : tie.Need-enum-known-refusal
-enum-known-refusal c = search needs
+work-out-lent-requires : tie.Need-work-out-lent-requires
+work-out-lent-requires c κs = search needs
 
 returns : tie.Need-returns
-unfolding workOf
-returns c rs =
-    let known = c .before in
-    let admit = known .before .before .before in
-    rw (attempt-past _ _ _, sym (admit .admit .ensures) ∙ ap admittedSaid (known .before .rules .given .1), admits known .same, c .attempt-on .ensures)
-
-returns-2 : tie.Need-returns-2
-unfolding workOf
-returns-2 c rs =
-    let admit = c .before .before .before in
-    rw (attempt-past _ _ _, sym (admit .admit .ensures) ∙ ap admittedSaid (c .before .refusal .given .1))
+returns c =
+    let a = c .before .before .before .args in
+    let lent = c .work-out-lent in
+    lent-own (λ (s : Sheet). work-out≡ s (a .seen) (a .event) (lent .result))
+    (a .sheet) _ (search needs) (c .before .before .numbers-of .ensures) (lent .ensures)
 
 pub work-out-spec : {M : Type 1} → statement M
-work-out-spec =
-    tie.close
-    (tie.spec
-    admit-requires
-    enum-known-rules
-    attempt-on-requires
-    enum-known-refusal
-    returns
-    returns-2)
+work-out-spec = tie.close (tie.spec numbers-of-requires slice-aggregate-work-out-lent work-out-lent-requires returns)

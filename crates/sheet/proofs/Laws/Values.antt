@@ -1,5 +1,5 @@
 -- Laws on a value judged without its text: the struct line by line, and the User IDs row by row. Assumes nothing.
-use mathlib.Core.Path.{_≡_, sym, ap, ap₂, _∙_, subst}
+use mathlib.Core.Path.{_≡_, refl, sym, ap, ap₂, _∙_, subst}
 use mathlib.Core.Logic.{⊎-elim, _↔_}
 use mathlib.Core.Bool.{Bool, true, false, not, _&&_, and-assoc}
 use mathlib.Core.List.{List, [], _++_, map}
@@ -9,17 +9,18 @@ use native.Mathlib.Omega.{arith}
 use lib.ListN.{length, getD, take, drop, length-append, length-take, length-drop, length-map, take-append-drop, drop-of-length-le, List·getD-append, List·getD-map, List·getD-eq-default}
 use lib.Seq.{length-take-le, drop-cons, take-suc, take-take, getD-take, take-append-add, drop-append-add, getD-append-add, ext-getD}
 use lib.Dec.{T, eqb, eqb→eq}
+use borrow.Author.Tests.{eq-eqb, ne-eqb, eqb-false}
 use Rattle.octets.specs.Choice.{same, some-of}
 use Rattle.octets.specs.Buffer.{zerosFrom, padded}
-use Rattle.octets.proofs.Choice.{T-true, true-T, T-false, false-T, T-and, T-and-left, T-and-right, same-eq, eq-same, le-or-lt}
+use Rattle.octets.proofs.Choice.{T-true, true-T, T-false, false-T, decide, pick-true, pick-false, T-and, T-and-left, T-and-right, same-eq, eq-same, le-or-lt}
 use Rattle.octets.proofs.Buffer.{zerosFrom-end, zerosFrom-step, padded-full, getD-padded, length-padded, same-padded}
 use Rattle.octets.proofs.Lists.{map-take, getD-default}
 use Rattle.sheet.specs.declared.Sheet.{Sheet}
-use Rattle.sheet.specs.Table.{table, numberLines, seatsLine, mostSeats}
+use Rattle.sheet.specs.Table.{table, rowAt, numberLines, seatsLine, mostSeats}
 use Rattle.sheet.specs.Line.{Entry}
-use Rattle.sheet.specs.Judge.{numbersIn, namesIn, goodNumber, goodName, userId, good, inTurn, whole, valid}
+use Rattle.sheet.specs.Judge.{numbersIn, namesIn, taken, goodNumber, goodName, userId, good, inTurn, whole, valid}
 use Rattle.sheet.specs.Promises.{numbers-of≡, are-valid≡, valid≡}
-use Rattle.sheet.specs.Value.{sheetBy, sheetFrom, sheetOf, rowOf, usersOf, numbersOf, nameOf, alone, seatEntries, entriesOf, validWith, validAlone}
+use Rattle.sheet.specs.Value.{sheetBy, sheetFrom, sheetIn, sheetOf, rowOf, usersOf, numbersOf, nameOf, alone, seatEntries, entriesOf, validWith, validAlone}
 use Rattle.sheet.specs.Inner.{newName, goodRow}
 use Rattle.sheet.proofs.Laws.Entries.{at-inTurn, eq-whole, length-numbersIn, inTurn-at, good-name}
 use Rattle.sheet.proofs.Laws.Fresh.{seats-bound}
@@ -93,16 +94,12 @@ many-seats s h = T-false (validAlone s) (λ t. let b : s .seats ≤ mostSeats = 
 
 -- ---- a struct by its numbers and the SSRCs behind them
 
--- it is the struct with those numbers ..
+-- it is the struct with those numbers
 pub sheetFrom-own : (s : Sheet) → length (s .ssrcs) ≡ mostSeats → sheetFrom (numbersOf s ++ s .ssrcs) ≡ s
 unfolding sheetFrom sheetBy numbersOf numberLines table
 sheetFrom-own s eight = sheetFrom-numbers s (s .ssrcs) (sym (padded-full mostSeats 0 (s .ssrcs) (omega arith)))
 
--- .. so that it is judged by them
-pub judged-own : (s : Sheet) (ns : List ℕ) (r : Bool) → length (s .ssrcs) ≡ mostSeats → numbers-of≡ s ns → are-valid≡ ns r → valid≡ s r
-judged-own s ns r eight e j = j ∙ ap validAlone (ap sheetFrom e ∙ sheetFrom-own s eight)
-
--- .. and as many numbers are those of the struct with them
+-- as many numbers are those of the struct with them
 pub numbers-sheetFrom : (ns : List ℕ) → length ns ≡ numberLines + mostSeats → ns ≡ numbersOf (sheetFrom ns) ++ sheetFrom ns .ssrcs
 unfolding sheetFrom sheetBy
 numbers-sheetFrom ns long =
@@ -124,6 +121,43 @@ module _ (s : Sheet) (ns : List ℕ) (e : ns ≡ numbersOf s ++ s .ssrcs) (long 
   -- too many: it is no sheet's
   pub numbers-many : mostSeats < getD ns seatsLine 0 → validAlone s ≡ false
   numbers-many h = many-seats s (rw seats-number at h)
+
+-- ---- numbers that are lent to a call
+
+-- as many as a sheet has: the struct is the one with them
+pub sheetIn-counted : (ns : List ℕ) → length ns ≡ 19 → sheetIn ns ≡ sheetFrom ns
+unfolding sheetIn numberLines table mostSeats
+sheetIn-counted ns long = ap sheetFrom (pick-true (eqb (length ns) 19) ns [] (eq-eqb (length ns) 19 long))
+
+-- any other count: it is the struct of zeros ..
+pub sheetIn-other : (ns : List ℕ) → (length ns ≡ 19 → ⊥) → sheetIn ns ≡ sheetFrom []
+unfolding sheetIn numberLines table mostSeats
+sheetIn-other ns other = ap sheetFrom (pick-false (eqb (length ns) 19) ns [] (ne-eqb (length ns) 19 other))
+
+-- .. which is no sheet's: "limit (1 to 8)"
+zeros-not-valid : validAlone (sheetFrom []) ≡ false
+unfolding validAlone sheetFrom sheetBy numbersOf inTurn goodNumber taken rowAt table
+zeros-not-valid = refl
+
+pub other-not-valid : (ns : List ℕ) → (length ns ≡ 19 → ⊥) → validAlone (sheetIn ns) ≡ false
+other-not-valid ns other = ap validAlone (sheetIn-other ns other) ∙ zeros-not-valid
+
+-- so that the numbers of a sheet are as many as it has
+pub valid-counted : (ns : List ℕ) → T (validAlone (sheetIn ns)) → length ns ≡ 19
+valid-counted ns t =
+    ⊎-elim
+    (eqb→eq (length ns) 19)
+    (λ e. absurd (false-T (validAlone (sheetIn ns)) (other-not-valid ns (eqb-false (length ns) 19 e)) t))
+    (decide (eqb (length ns) 19))
+
+-- those of a struct stand for it ..
+pub sheetIn-own : (s : Sheet) (ns : List ℕ) → length (s .ssrcs) ≡ mostSeats → numbers-of≡ s ns → sheetIn ns ≡ s
+unfolding numbersOf mostSeats
+sheetIn-own s ns eight e = sheetIn-counted ns (omega (arith, ap length e, eight)) ∙ ap sheetFrom e ∙ sheetFrom-own s eight
+
+-- .. so that it is judged by them
+pub judged-own : (s : Sheet) (ns : List ℕ) (r : Bool) → length (s .ssrcs) ≡ mostSeats → numbers-of≡ s ns → are-valid≡ ns r → valid≡ s r
+judged-own s ns r eight e j = j ∙ ap validAlone (sheetIn-own s ns eight e)
 
 -- ---- a row is good exactly if a name is laid out in it, none where no seat is, and the name is new
 

@@ -10,21 +10,22 @@ use native.Mathlib.Omega.{arith}
 use lib.ListN.{length, getD}
 use lib.Seq.{slice, slice-cons}
 use lib.Dec.{T, ltb, eqb, eqb→eq, eqb-refl, ltb→lt, lit<}
-use borrow.Author.Tests.{lt-ltb, ne-eqb}
+use borrow.Author.Tests.{lt-ltb, eq-eqb, ne-eqb}
 use Rattle.octets.specs.Choice.{All, same, every}
 use Rattle.octets.proofs.Choice.{T-and, T-and-left, T-and-right, every-getD, same-refl, same-eq}
 use Rattle.octets.proofs.First.{first-all, first-other}
 use Rattle.sheet.specs.declared.Sheet.{Sheet}
-use Rattle.sheet.specs.Table.{table, numberLines, rowAt}
+use Rattle.sheet.specs.Table.{table, numberLines, mostSeats, rowAt}
 use Rattle.sheet.specs.Value as value
 use Rattle.sheet.specs.Value.{validAlone}
 use Rattle.sheet.proofs.Laws.Bounds.{valid-within, valid-apart}
+use Rattle.sheet.proofs.Laws.Values.{sheetIn-counted, valid-counted}
 use Rattle.packet.specs.declared.Numbers.{Numbers}
 use Rattle.packet.specs.Header.{lettersIn, numberIn}
 use Rattle.packet.specs.Kind.{Row, Kind, kinds, hasKind, kindOf, numbersOf}
 use Rattle.packet.proofs.Laws.Allowed.{uses}
 use Rattle.writing.specs.Packet.{kindWith}
-use Rattle.writing.specs.Writing.{fits}
+use Rattle.writing.specs.Writing.{fits, fitting}
 use Rattle.writing.specs.Claims.{areOctets}
 
 -- ---- the kind with a number
@@ -94,6 +95,33 @@ valid-fits s v =
       lt-ltb (s .txendresponse) 16 (n .txendresponse),
       lt-ltb (s .ack) 16 (n .ack),
     ) tt
+
+-- ---- numbers that are lent to a call
+
+module _ (ns : List ℕ) where
+  -- of as many as a sheet has it is asked whether they fit ..
+  pub fitting-is : length ns ≡ 19 → fitting ns ≡ fits (numbersOf (value.sheetFrom ns))
+  unfolding fitting numberLines table mostSeats
+  fitting-is long = rw (eq-eqb (length ns) 19 long)
+
+  -- .. and of no others
+  pub other-not-fitting : (length ns ≡ 19 → ⊥) → fitting ns ≡ false
+  unfolding fitting numberLines table mostSeats
+  other-not-fitting other = rw (ne-eqb (length ns) 19 other)
+
+  -- those that fit are as many as a sheet has
+  pub fitting-counted : T (fitting ns) → length ns ≡ 19
+  unfolding fitting numberLines table mostSeats
+  fitting-counted t = eqb→eq (length ns) 19 (T-and-left (eqb (length ns) 19) (fits (numbersOf (value.sheetFrom ns))) t)
+
+  pub fitting-fits : T (fitting ns) → T (fits (numbersOf (value.sheetFrom ns)))
+  fitting-fits t = rw (fitting-is (fitting-counted t)) at t
+
+  -- a valid sheet's fit
+  pub valid-fitting : T (validAlone (value.sheetIn ns)) → T (fitting ns)
+  valid-fitting t =
+      let long = valid-counted ns t in
+      rw (fitting-is long, ← sheetIn-counted ns long) (valid-fits (value.sheetIn ns) t)
 
 -- ---- what each is like
 

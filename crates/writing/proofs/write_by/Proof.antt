@@ -7,6 +7,7 @@ use denote.Ref.{now}
 use Rattle.octets.proofs.Choice.{true-T}
 use Rattle.sheet.specs.Value.{sheetFrom}
 use Rattle.writing.specs.Writing.{writeBy, told, after}
+use Rattle.writing.proofs.Laws.Kinds.{fitting-fits}
 use Rattle.writing.proofs.Laws.Plans.{planned-is}
 use Rattle.writing.proofs.write_by.Statement.{statement}
 use Rattle.writing.proofs.write_by.Tie as tie
@@ -35,10 +36,11 @@ unfolding writeBy
 returns-2 c =
     let plan = c .before .before .before .before in
     let asked = plan .before .before in
-    let a = asked .before .before .before .args in
-    let fitting = sym (asked .fit .ensures) ∙ not-false _ (plan .before .if1 .left) in
-    let means = planned-is (sheetFrom (now (a .numbers))) (true-T _ fitting) (a .message) (now (a .names)) (plan .plan-of .ensures .1) in
-    rw fitting (rw (plan .plan-of .ensures .0, means) at (c .before .before .write-plan .ensures))
+    let a = asked .before .before .before .before .args in
+    let holds = sym (asked .fit .ensures) ∙ not-false _ (plan .before .if1 .left) in
+    let ns = now (a .numbers) in
+    let means = planned-is (sheetFrom ns) (fitting-fits ns (true-T _ holds)) (a .message) (now (a .names)) (plan .plan-of .ensures .1) in
+    rw holds (rw (plan .plan-of .ensures .0, means) at (c .before .before .write-plan .ensures))
 
 pub write-by-spec : {M : Type 1} → statement M
 write-by-spec =

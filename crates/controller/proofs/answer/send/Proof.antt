@@ -1,15 +1,17 @@
 -- `controller::answer::send` meets its contract: what is said and put is the writer's, or nothing. Assumes nothing.
 use borrow.Author.Needs.{needs}
 use mathlib.Core.Path.{refl, sym, _∙_}
+use native.Mathlib.Omega.{arith}
 use denote.Ref.{now}
 use Rattle.sheet.specs.Value.{sheetBy, sheetFrom}
+use Rattle.writing.proofs.Laws.Kinds.{fitting-counted}
 use Rattle.controller.specs.Sending.{told, after}
 use Rattle.controller.proofs.Laws.Answers.{sends-message, sends-nothing}
 use Rattle.controller.proofs.answer.send.Statement.{statement}
 use Rattle.controller.proofs.answer.send.Tie as tie
 
-element-copy-out-message-of : tie.Need-element-copy-out-message-of
-element-copy-out-message-of c = search needs
+shared-slice-read-message-of : tie.Need-shared-slice-read-message-of
+shared-slice-read-message-of c = omega (arith, fitting-counted _ (c .before .before .before .before .pre .0))
 
 message-of-requires : tie.Need-message-of-requires
 message-of-requires c κs = search needs
@@ -36,9 +38,9 @@ returns c =
     let put = c .before .before .before in
     let going = put .before .before .before in
     let asked = going .before .before in
-    let start = asked .before .before .before .before in
+    let start = asked .before .before .before .before .before in
     let a = start .args in
-    sends-message (sheetFrom (now (a .numbers))) (now (a .row)) (a .answer) (now (a .out)) (start .pre .0) _ (put .write-by .result) (c .sending-of .result) _
+    sends-message (now (a .row)) (a .answer) (now (a .out)) (now (a .numbers)) (start .pre .0) _ (put .write-by .result) (c .sending-of .result) _
     (sym (asked .message-of .ensures) ∙ going .message .given .1) (put .write-by .ensures) (c .sending-of .ensures)
 
 -- none does
@@ -46,15 +48,15 @@ returns-2 : tie.Need-returns-2
 unfolding sheetFrom sheetBy told after
 returns-2 c =
     let asked = c .before .before in
-    let a = asked .before .before .before .before .args in
-    rw (sends-nothing (sheetFrom (now (a .numbers))) (now (a .row)) (a .answer) (now (a .out)) (sym (asked .message-of .ensures) ∙ c .enum-told .given .1))
-    (refl, refl)
+    let a = asked .before .before .before .before .before .args in
+    let none = sym (asked .message-of .ensures) ∙ c .enum-told .given .1 in
+    rw (sends-nothing (now (a .row)) (a .answer) (now (a .out)) (sheetFrom (now (a .numbers))) none) (refl, refl)
 
 pub send-spec : {M : Type 1} → statement M
 send-spec =
     tie.close
     (tie.spec
-    element-copy-out-message-of
+    shared-slice-read-message-of
     message-of-requires
     enum-known-message
     write-by-requires

@@ -1,27 +1,37 @@
 -- `sheet::numbers::are_valid_with` meets its contract: the struct is judged by itself, and then row by row. Assumes nothing.
-use mathlib.Core.Path.{_≡_, sym, _∙_}
+use mathlib.Core.Path.{_≡_, sym, ap, _∙_, subst}
 use borrow.Author.Needs.{needs}
 use borrow.Author.Tests.{not-true, not-false}
 use native.Mathlib.Omega.{arith}
 use lib.ListN.{length, length-drop}
+use lib.Dec.{T}
 use Rattle.octets.proofs.Choice.{true-T}
 use Rattle.octets.proofs.Buffer.{length-padded}
+use Rattle.sheet.specs.declared.Sheet.{Sheet}
 use Rattle.sheet.specs.Table.{table, numberLines, mostSeats}
-use Rattle.sheet.specs.Value.{sheetBy, sheetFrom}
-use Rattle.sheet.proofs.Laws.Values.{rows-judged, not-alone}
+use Rattle.sheet.specs.Value.{sheetBy, sheetFrom, sheetIn, validWith, validAlone}
+use Rattle.sheet.proofs.Laws.Values.{rows-judged, not-alone, sheetIn-counted, valid-counted}
 use Rattle.sheet.proofs.numbers.are_valid_with.Statement.{statement}
 use Rattle.sheet.proofs.numbers.are_valid_with.Tie as tie
 
 are-valid-requires : tie.Need-are-valid-requires
 are-valid-requires c κs = search needs
 
+-- the numbers are a sheet's ..
+alone : (c : tie.Else1) → let ns = c .before .before .before .args .numbers .now in T (validAlone (sheetIn ns))
+alone c = true-T _ (sym (c .before .are-valid .ensures) ∙ not-false _ (c .if1 .left))
+
+-- .. so there are nineteen
+long : (c : tie.Else1) → length (c .before .before .before .args .numbers .now) ≡ 19
+long c = valid-counted _ (alone c)
+
 returns : tie.Need-returns
 returns c =
-    let a = c .before .before .args in
-    sym (not-alone (sheetFrom (a .numbers .now)) (a .users .now) (sym (c .before .are-valid .ensures) ∙ not-true _ (c .if1 .taken)))
+    let a = c .before .before .before .args in
+    sym (not-alone (sheetIn (a .numbers .now)) (a .users .now) (sym (c .before .are-valid .ensures) ∙ not-true _ (c .if1 .taken)))
 
 shared-slice-read-are-good-rows : tie.Need-shared-slice-read-are-good-rows
-shared-slice-read-are-good-rows c = omega (arith, c .before .all .given .0)
+shared-slice-read-are-good-rows c = omega (arith, long (c .before))
 
 are-good-rows-requires : tie.Need-are-good-rows-requires
 are-good-rows-requires c κs = search needs
@@ -29,12 +39,14 @@ are-good-rows-requires c κs = search needs
 returns-2 : tie.Need-returns-2
 unfolding sheetFrom sheetBy numberLines table mostSeats
 returns-2 c =
-    let all = c .before .before in
-    let checked = all .before .before in
-    let a = checked .before .args in
-    let alone = true-T _ (sym (checked .are-valid .ensures) ∙ not-false _ (all .before .if1 .left)) in
-    let eight : length (sheetFrom (a .numbers .now) .ssrcs) ≡ 8 = length-padded 8 0 _ (rw length-drop (omega (arith, all .all .given .0))) in
-    rows-judged (sheetFrom (a .numbers .now)) (a .users .now) eight (c .are-good-rows .ensures .0) alone _ (c .are-good-rows .ensures .1)
+    let else1 = c .before .before in
+    let a = else1 .before .before .before .args in
+    let ns = a .numbers .now in
+    let own : sheetIn ns ≡ sheetFrom ns = sheetIn-counted ns (long else1) in
+    let eight : length (sheetFrom ns .ssrcs) ≡ 8 = length-padded 8 0 _ (rw length-drop (omega (arith, long else1))) in
+    let t : T (validAlone (sheetFrom ns)) = subst (λ (s : Sheet). T (validAlone s)) own (alone else1) in
+    rows-judged (sheetFrom ns) (a .users .now) eight (c .are-good-rows .ensures .0) t _ (c .are-good-rows .ensures .1)
+    ∙ ap (λ (s : Sheet). validWith s (a .users .now)) (sym own)
 
 pub are-valid-with-spec : {M : Type 1} → statement M
 are-valid-with-spec =

@@ -5,6 +5,7 @@ use mathlib.Core.List.{List}
 use Prim.Native.Nat.{ℕ, _-_}
 use native.Mathlib.Omega.{arith}
 use lib.ListN.{drop}
+use lib.Seq.{length-take-le}
 use denote.Ref.{now}
 use borrow.Author.Needs.{needs}
 use borrow.Author.Tests.{not-true, not-false}
@@ -42,7 +43,7 @@ good-told c =
 
 -- the name that was looked for is the line's
 abbrev at-name : tie.After-is-new-name → tie.After-known-told
-at-name c = c .before .before .before .before .before
+at-name c = c .before .before .before .before .before .before .before
 
 name-told : (c : tie.After-is-new-name)
     → c .is-new-name .result
@@ -61,12 +62,15 @@ enum-told c = search needs
 enum-known-found : tie.Need-enum-known-found
 enum-known-found c = search needs
 
+slice-aggregate-is-good-number : tie.Need-slice-aggregate-is-good-number
+slice-aggregate-is-good-number c = sym (length-take-le _ _ (omega (arith, c .before .all .given .0)))
+
 is-good-number-requires : tie.Need-is-good-number-requires
 is-good-number-requires c κs = search needs
 
 returns : tie.Need-returns
 returns c =
-    let f = c .before .before in
+    let f = c .before .before .before .before in
     let a = start f .args in
     judged-no-number (now (a .text)) (a .at) (a .k) (now (a .numbers)) (now (a .users)) (number f) (from f) (end f) (good-told f)
     (sym (c .before .is-good-number .ensures) ∙ not-true _ (c .if1 .taken))
@@ -74,7 +78,7 @@ returns c =
 returns-2 : tie.Need-returns-2
 unfolding numberLines table
 returns-2 c =
-    let f = c .before .before .before in
+    let f = c .before .before .before .before .before in
     let a = start f .args in
     judged-alone (now (a .text)) (a .at) (a .k) (now (a .numbers)) (now (a .users)) (number f) (from f) (end f) (good-told f)
     (sym (c .before .before .is-good-number .ensures) ∙ not-false _ (c .before .if1 .left))
@@ -85,15 +89,15 @@ cast-is-new-name c = search needs
 
 sub-is-new-name : tie.Need-sub-is-new-name
 unfolding LineIs
-sub-is-new-name c = good-told (c .before .before .before) .2 .from
+sub-is-new-name c = good-told (c .before .before .before .before .before) .2 .from
 
 part-is-new-name-start : tie.Need-part-is-new-name-start
 unfolding LineIs
-part-is-new-name-start c = good-told (c .before .before .before) .2 .from
+part-is-new-name-start c = good-told (c .before .before .before .before .before) .2 .from
 
 part-is-new-name-end : tie.Need-part-is-new-name-end
 unfolding LineIs
-part-is-new-name-end c = let h = good-told (c .before .before .before) .2 .within in omega arith
+part-is-new-name-end c = let h = good-told (c .before .before .before .before .before) .2 .within in omega arith
 
 is-new-name-requires : tie.Need-is-new-name-requires
 is-new-name-requires c κs = search needs
@@ -108,7 +112,7 @@ returns-3 c =
 returns-4 : tie.Need-returns-4
 unfolding numberLines table
 returns-4 c =
-    let f = c .before .before .before .before .before .before in
+    let f = c .before .before .before .before .before .before .before .before in
     let a = start f .args in
     judged-seat (now (a .text)) (a .at) (a .k) (now (a .numbers)) (now (a .users)) (number f) (from f) (end f) (good-told f)
     (sym (c .before .before .before .before .before .is-good-number .ensures) ∙ not-false _ (c .before .before .before .before .if1 .left))
@@ -118,7 +122,7 @@ returns-4 c =
 returns-5 : tie.Need-returns-5
 unfolding numberLines table
 returns-5 c =
-    let f = c .before .before .before .before .before .before in
+    let f = c .before .before .before .before .before .before .before .before in
     let a = start f .args in
     judged-no-seat (now (a .text)) (a .at) (a .k) (now (a .numbers)) (now (a .users)) (number f) (from f) (end f) (good-told f)
     (sym (c .before .before .before .before .before .is-good-number .ensures) ∙ not-false _ (c .before .before .before .before .if1 .left))
@@ -132,6 +136,7 @@ judged-spec =
     line-at-requires
     enum-told
     enum-known-found
+    slice-aggregate-is-good-number
     is-good-number-requires
     returns
     returns-2

@@ -1,14 +1,16 @@
 -- `writing::messages::plan_of` meets its contract: message by message, under numbers that fit. Assumes nothing.
+use mathlib.Core.Path.{_≡_}
 use Prim.Native.Nat.{ℕ, _^_, _<_}
 use native.Mathlib.Omega.{arith}
 use mathlib.Core.Bool.{Bool, _&&_}
+use lib.ListN.{length}
 use lib.Dec.{T, lt→ltb}
 use borrow.Author.Needs.{needs}
 use Rattle.octets.proofs.Choice.{T-and}
 use Rattle.sheet.specs.Value.{sheetBy, sheetFrom}
 use Rattle.writing.specs.Packet.{within}
 use Rattle.writing.specs.Inner.{indicatorWithin, verdictWithin, inWidth}
-use Rattle.writing.proofs.Laws.Kinds.{small}
+use Rattle.writing.proofs.Laws.Kinds.{Small, small, fitting-counted, fitting-fits}
 use Rattle.writing.proofs.messages.plan_of.Statement.{statement}
 use Rattle.writing.proofs.messages.plan_of.Tie as tie
 
@@ -16,11 +18,19 @@ use Rattle.writing.proofs.messages.plan_of.Tie as tie
 within-and : (octets n : ℕ) (b : Bool) → n < 256 ^ octets → T b → T (within octets n && b)
 within-and octets n b h t = T-and (within octets n) b (lt→ltb n (256 ^ octets) h) t
 
+-- each of the numbers goes into its place
+narrow : (c : tie.Start) → Small (sheetFrom (c .args .numbers .now))
+narrow c = small (sheetFrom (c .args .numbers .now)) (fitting-fits (c .args .numbers .now) (c .pre))
+
+-- there are nineteen
+long : (c : tie.Start) → length (c .args .numbers .now) ≡ 19
+long c = fitting-counted (c .args .numbers .now) (c .pre)
+
 enum-known-message : tie.Need-enum-known-message
 enum-known-message c = search needs
 
-element-copy-out-plan-with : tie.Need-element-copy-out-plan-with
-element-copy-out-plan-with c = search needs
+shared-slice-read-plan-with : tie.Need-shared-slice-read-plan-with
+shared-slice-read-plan-with c = omega (arith, long (c .before .before .before .before .before))
 
 indicator-part-requires : tie.Need-indicator-part-requires
 indicator-part-requires c κs = search needs
@@ -28,23 +38,23 @@ indicator-part-requires c κs = search needs
 plan-with-requires : tie.Need-plan-with-requires
 unfolding sheetFrom sheetBy
 plan-with-requires c κs =
-    let start = c .before .before .before .before .before in
-    small (sheetFrom (start .args .numbers .now)) (start .pre) .request
+    let start = c .before .before .before .before .before .before in
+    narrow start .request
 
 enum-known-message-2 : tie.Need-enum-known-message-2
 enum-known-message-2 c = search needs
 
-element-copy-out-plan-with-2 : tie.Need-element-copy-out-plan-with-2
-element-copy-out-plan-with-2 c = search needs
+shared-slice-read-plan-with-2 : tie.Need-shared-slice-read-plan-with-2
+shared-slice-read-plan-with-2 c = omega (arith, long (c .before .before .before .before .before))
 
-element-copy-out-result-part : tie.Need-element-copy-out-result-part
-element-copy-out-result-part c = search needs
+shared-slice-read-result-part : tie.Need-shared-slice-read-result-part
+shared-slice-read-result-part c = omega (arith, long (c .before .before .before .before .before .before))
 
 result-part-requires : tie.Need-result-part-requires
 unfolding sheetFrom sheetBy
 result-part-requires c κs =
-    let start = c .before .before .before .before .before in
-    let n = small (sheetFrom (start .args .numbers .now)) (start .pre) in
+    let start = c .before .before .before .before .before .before in
+    let n = narrow start in
     omega arith
 
 cause-part-requires : tie.Need-cause-part-requires
@@ -56,14 +66,14 @@ indicator-part-requires-2 c κs = search needs
 plan-with-requires-2 : tie.Need-plan-with-requires-2
 unfolding sheetFrom sheetBy
 plan-with-requires-2 c κs =
-    let start = c .before .before .before .before .before .before .before .before in
-    small (sheetFrom (start .args .numbers .now)) (start .pre) .response
+    let start = c .before .before .before .before .before .before .before .before .before in
+    narrow start .response
 
 enum-known-message-3 : tie.Need-enum-known-message-3
 enum-known-message-3 c = search needs
 
-element-copy-out-plan-with-3 : tie.Need-element-copy-out-plan-with-3
-element-copy-out-plan-with-3 c = search needs
+shared-slice-read-plan-with-3 : tie.Need-shared-slice-read-plan-with-3
+shared-slice-read-plan-with-3 c = omega (arith, long (c .before .before .before .before .before))
 
 indicator-part-requires-3 : tie.Need-indicator-part-requires-3
 indicator-part-requires-3 c κs = search needs
@@ -71,26 +81,26 @@ indicator-part-requires-3 c κs = search needs
 plan-with-requires-3 : tie.Need-plan-with-requires-3
 unfolding sheetFrom sheetBy
 plan-with-requires-3 c κs =
-    let start = c .before .before .before .before .before in
-    small (sheetFrom (start .args .numbers .now)) (start .pre) .endrequest
+    let start = c .before .before .before .before .before .before in
+    narrow start .endrequest
 
 enum-known-message-4 : tie.Need-enum-known-message-4
 enum-known-message-4 c = search needs
 
-element-copy-out-plan-with-4 : tie.Need-element-copy-out-plan-with-4
-element-copy-out-plan-with-4 c = search needs
+shared-slice-read-plan-with-4 : tie.Need-shared-slice-read-plan-with-4
+shared-slice-read-plan-with-4 c = omega (arith, long (c .before .before .before .before .before))
 
 plan-with-requires-4 : tie.Need-plan-with-requires-4
 unfolding sheetFrom sheetBy
 plan-with-requires-4 c κs =
-    let start = c .before .before .before .before in
-    small (sheetFrom (start .args .numbers .now)) (start .pre) .endresponse
+    let start = c .before .before .before .before .before in
+    narrow start .endresponse
 
 enum-known-message-5 : tie.Need-enum-known-message-5
 enum-known-message-5 c = search needs
 
-element-copy-out-plan-with-5 : tie.Need-element-copy-out-plan-with-5
-element-copy-out-plan-with-5 c = search needs
+shared-slice-read-plan-with-5 : tie.Need-shared-slice-read-plan-with-5
+shared-slice-read-plan-with-5 c = omega (arith, long (c .before .before .before .before .before))
 
 numbered-requires : tie.Need-numbered-requires
 numbered-requires c κs = search needs
@@ -101,26 +111,26 @@ indicator-part-requires-4 c κs = search needs
 plan-with-requires-5 : tie.Need-plan-with-requires-5
 unfolding sheetFrom sheetBy
 plan-with-requires-5 c κs =
-    let start = c .before .before .before .before .before .before in
-    small (sheetFrom (start .args .numbers .now)) (start .pre) .txend
+    let start = c .before .before .before .before .before .before .before in
+    narrow start .txend
 
 enum-known-message-6 : tie.Need-enum-known-message-6
 enum-known-message-6 c = search needs
 
-element-copy-out-plan-with-6 : tie.Need-element-copy-out-plan-with-6
-element-copy-out-plan-with-6 c = search needs
+shared-slice-read-plan-with-6 : tie.Need-shared-slice-read-plan-with-6
+shared-slice-read-plan-with-6 c = omega (arith, long (c .before .before .before .before .before))
 
 plan-with-requires-6 : tie.Need-plan-with-requires-6
 unfolding sheetFrom sheetBy
 plan-with-requires-6 c κs =
-    let start = c .before .before .before .before in
-    small (sheetFrom (start .args .numbers .now)) (start .pre) .txendresponse
+    let start = c .before .before .before .before .before in
+    narrow start .txendresponse
 
 enum-known-message-7 : tie.Need-enum-known-message-7
 enum-known-message-7 c = search needs
 
-element-copy-out-plan-with-7 : tie.Need-element-copy-out-plan-with-7
-element-copy-out-plan-with-7 c = search needs
+shared-slice-read-plan-with-7 : tie.Need-shared-slice-read-plan-with-7
+shared-slice-read-plan-with-7 c = omega (arith, long (c .before .before .before .before .before))
 
 numbered-requires-2 : tie.Need-numbered-requires-2
 numbered-requires-2 c κs = search needs
@@ -137,8 +147,8 @@ numbered-requires-3 c κs = search needs
 plan-with-requires-7 : tie.Need-plan-with-requires-7
 unfolding sheetFrom sheetBy
 plan-with-requires-7 c κs =
-    let start = c .before .before .before .before .before .before in
-    small (sheetFrom (start .args .numbers .now)) (start .pre) .ack
+    let start = c .before .before .before .before .before .before .before in
+    narrow start .ack
 
 returns : tie.Need-returns
 unfolding inWidth sheetFrom sheetBy
@@ -209,33 +219,33 @@ plan-of-spec =
     tie.close
     (tie.spec
     enum-known-message
-    element-copy-out-plan-with
+    shared-slice-read-plan-with
     indicator-part-requires
     plan-with-requires
     enum-known-message-2
-    element-copy-out-plan-with-2
-    element-copy-out-result-part
+    shared-slice-read-plan-with-2
+    shared-slice-read-result-part
     result-part-requires
     cause-part-requires
     indicator-part-requires-2
     plan-with-requires-2
     enum-known-message-3
-    element-copy-out-plan-with-3
+    shared-slice-read-plan-with-3
     indicator-part-requires-3
     plan-with-requires-3
     enum-known-message-4
-    element-copy-out-plan-with-4
+    shared-slice-read-plan-with-4
     plan-with-requires-4
     enum-known-message-5
-    element-copy-out-plan-with-5
+    shared-slice-read-plan-with-5
     numbered-requires
     indicator-part-requires-4
     plan-with-requires-5
     enum-known-message-6
-    element-copy-out-plan-with-6
+    shared-slice-read-plan-with-6
     plan-with-requires-6
     enum-known-message-7
-    element-copy-out-plan-with-7
+    shared-slice-read-plan-with-7
     numbered-requires-2
     cast-numbered
     mul-numbered
