@@ -11,6 +11,7 @@ mod values;
 
 use held::Held;
 use held::MOST;
+use packet::NO_NUMBERS;
 use packet::Numbers;
 use sheet::Refusal;
 use writing::Writing;
@@ -51,17 +52,6 @@ struct Went {
     look: Look,
     end: usize,
 }
-
-const NO_NUMBERS: Numbers = Numbers {
-    request: 0,
-    response: 0,
-    endrequest: 0,
-    endresponse: 0,
-    txend: 0,
-    txendresponse: 0,
-    ack: 0,
-    resultid: 0,
-};
 
 // An octet of the input makes at most so many of the output.
 const TIMES: usize = 10;

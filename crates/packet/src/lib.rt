@@ -40,7 +40,8 @@ pub struct Numbers {
     pub resultid: u32,
 }
 
-const NO_NUMBERS: Numbers = Numbers {
+// All zero.
+pub const NO_NUMBERS: Numbers = Numbers {
     request: 0,
     response: 0,
     endrequest: 0,

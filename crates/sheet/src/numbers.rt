@@ -68,7 +68,7 @@ pub fn are_valid(numbers: &[u32]) -> bool
 pub fn are_valid_with(numbers: &[u32], users: &Users) -> bool
     ensures { λ r. ⌜ are-valid-with≡ (now (numbers .entry)) (now (users .entry)) r ⌝ }
 {
-    if !are_valid(numbers) {
+    if !are_valid(&numbers[..]) {
         return false;
     }
     are_good_rows(users, numbers[SEATS_LINE])

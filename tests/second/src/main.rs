@@ -6,6 +6,8 @@
 //!     second reception compare SEED ROUNDS < ANSWERS
 //!     second controller make SEED ROUNDS > CASES
 //!     second controller compare SEED ROUNDS < ANSWERS
+//!     second face make SEED ROUNDS > CASES
+//!     second face compare SEED ROUNDS < ANSWERS
 //!     second look < INPUT
 //!     second look make SEED COUNT DIR
 //!     second sample cases > crates/answers/stdin
@@ -19,6 +21,7 @@ mod compare;
 mod controller;
 mod damage;
 mod drafts;
+mod face;
 mod good;
 mod look;
 mod messages;
@@ -45,8 +48,9 @@ use std::path::Path;
 use std::process::ExitCode;
 use wire::Case;
 
-const USAGE: &str = "second [reception|controller] make SEED ROUNDS | [reception|controller] compare SEED ROUNDS | \
-    look | look make SEED COUNT DIR | sample cases | sample answers | sample bench | sample every";
+const USAGE: &str = "second [reception|controller|face] make SEED ROUNDS | \
+    [reception|controller|face] compare SEED ROUNDS | look | look make SEED COUNT DIR | \
+    sample cases | sample answers | sample bench | sample every";
 
 /// Every case about sheets and packets that is thought of, then so many rounds of cases by chance.
 fn cases(seed: u64, rounds: usize) -> Vec<Case> {
@@ -95,6 +99,12 @@ fn run(words: &[&str]) -> Option<io::Result<bool>> {
     match words {
         ["reception", words @ ..] => run_on(words, reception::cases),
         ["controller", words @ ..] => run_on(words, controller::cases),
+        ["face", "make", seed, rounds] => {
+            Some(face::make(seed.parse().ok()?, rounds.parse().ok()?, io::stdout().lock()))
+        }
+        ["face", "compare", seed, rounds] => {
+            Some(face::compare(seed.parse().ok()?, rounds.parse().ok()?, io::stdin().lock()))
+        }
         ["look"] => Some(look::run().map(|()| true)),
         ["look", "make", seed, count, dir] => Some(look::make(seed.parse().ok()?, count.parse().ok()?, Path::new(dir))),
         ["sample", "cases"] => Some(print_cases(sample::octets().into_iter())),

@@ -45,7 +45,7 @@ fn fields(random: &mut Random, length: usize) -> Octets {
 }
 
 /// Octets by chance: fields, numbers that may be a length, or any.
-fn any_octets(random: &mut Random) -> Octets {
+pub fn any_octets(random: &mut Random) -> Octets {
     let length = random.below(301);
     match random.below(4) {
         0 => (0..length).map(|_| random.octet()).collect(),
@@ -56,7 +56,7 @@ fn any_octets(random: &mut Random) -> Octets {
 }
 
 /// A place by chance, a good one for the most part.
-fn any_place(random: &mut Random, octets: &[u8]) -> u64 {
+pub fn any_place(random: &mut Random, octets: &[u8]) -> u64 {
     let length = octets.len();
     match random.below(6) {
         0 => random.below(length + 20) as u64,

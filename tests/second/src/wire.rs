@@ -160,7 +160,7 @@ fn reading_numbers(reading: &Reading) -> [u32; 12] {
 
 /// A message: kind, SSRC, Ack asked, place and length of the User ID and of the named transmitter, Result, cause,
 /// Indicator, Source, Message Type.
-fn message_numbers(message: &Message) -> [u32; 12] {
+pub fn message_numbers(message: &Message) -> [u32; 12] {
     let place = |name: &Option<Range<usize>>| match name {
         Some(name) => [name.start as u32, name.len() as u32],
         None => [0, 0],

@@ -41,6 +41,11 @@ impl Numbered {
     }
 }
 
+/// What gives each answer on stream 0 where limit is 2: a record seen and an event.
+pub fn given() -> impl Iterator<Item = (Record, Event)> {
+    GIVEN.into_iter().map(|(_, seen, what)| (seen, Event { stream: 0, what }))
+}
+
 /// Every answer, with this cause where it carries one.
 pub fn all(cause: u16) -> [Numbered; GIVEN.len()] {
     std::array::from_fn(|at| {

@@ -1,14 +1,14 @@
 //! The controller: its rules from document 01, and what is asked about them: which events packets make, and which
 //! packets answers send.
 
-mod answered;
-mod answers;
+pub mod answered;
+pub mod answers;
 mod compare;
-mod events;
-mod offered;
+pub mod events;
+pub mod offered;
 pub mod sample;
-mod scene;
-mod sending;
+pub mod scene;
+pub mod sending;
 mod sheets;
 mod sorts;
 mod tally;

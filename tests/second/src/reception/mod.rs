@@ -1,19 +1,19 @@
 //! Reception: its rules from document 01, and what is asked about them: attempts, steps of two routines, whole
 //! schedules of them, and stores of any attempt.
 
-mod attempts;
-mod chance;
+pub mod attempts;
+pub mod chance;
 mod compare;
-mod families;
+pub mod families;
 pub mod octets;
 pub mod record;
-mod routines;
+pub mod routines;
 pub mod sample;
-mod schedules;
+pub mod schedules;
 mod serial;
 mod sorts;
-mod steps;
-mod stores;
+pub mod steps;
+pub mod stores;
 pub mod table;
 mod tally;
 mod wanted;

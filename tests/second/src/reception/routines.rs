@@ -52,6 +52,16 @@ impl Routines {
         self.slots[slot].event
     }
 
+    /// The record that a routine would work out from.
+    pub fn record_in(&self, slot: usize) -> Record {
+        self.slots[slot].record
+    }
+
+    /// The attempt that a store would store.
+    pub fn attempt_in(&self, slot: usize) -> Attempt {
+        self.slots[slot].attempt
+    }
+
     fn read(&mut self, slot: usize, stream: u8) -> Result<Record, u32> {
         let record = steps::read(self.call, &self.records, stream)?;
         self.slots[slot].record = record;

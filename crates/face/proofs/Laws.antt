@@ -1,0 +1,16 @@
+pub mod Told
+pub mod Records
+pub mod Reception
+pub mod Whose
+pub mod Answers
+pub mod Events
+pub mod Attempts
+pub mod Steps
+pub mod Wrote
+pub mod Sheets
+pub mod Sends
+pub mod Writes
+pub mod Messages
+pub mod Unwritable
+pub mod Standing
+pub mod Claims

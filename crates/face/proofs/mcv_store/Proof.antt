@@ -1,0 +1,106 @@
+-- `face::mcv_store` meets its contract: what is stored of the attempt in the records that the rows stand for, and 9 for all else. Assumes nothing.
+use mathlib.Core.Path.{_≡_, sym, _∙_, subst}
+use mathlib.Core.Bool.{true}
+use borrow.Author.Tests.{not-true, not-false}
+use Rattle.reception.specs.Steps.{Said}
+use Rattle.face.specs.Rows.{recordsIn}
+use Rattle.face.specs.Calls.{Stored as Kept}
+use Rattle.face.specs.Promises.{Keeps}
+use Rattle.face.specs.Inner.{isSome, TryingIs}
+use Rattle.face.proofs.Laws.Records.{is-some}
+use Rattle.face.proofs.Laws.Steps.{keeps-misfit, store-unread, store-given, store-nothing}
+use borrow.Author.Needs.{needs}
+use Rattle.face.proofs.mcv_store.Statement.{statement}
+use Rattle.face.proofs.mcv_store.Tie as tie
+
+are-records-requires : tie.Need-are-records-requires
+are-records-requires c κs = search needs
+
+misfit-requires : tie.Need-misfit-requires
+misfit-requires c κs = search needs
+
+same-length : tie.Need-same-length
+same-length c = search needs
+
+returns : tie.Need-returns
+returns c =
+    let test = c .before .before in
+    let a = test .before .before .before .before .before .before .args in
+    keeps-misfit (a .sheet .now) _
+    (store-unread (a .sheet .now) (a .attempt .now) (a .records .now) (sym (test .are-records .ensures) ∙ not-true _ (c .before .if1 .taken)))
+    (a .records .now)
+    (a .answer .now)
+    _
+    (c .misfit .ensures)
+
+-- past the test there are eight records
+eight : (c : tie.Else1) → isSome (recordsIn 8 (c .before .before .before .before .before .before .before .args .records .now)) ≡ true
+eight c = sym (c .before .are-records .ensures) ∙ not-false _ (c .if1 .left)
+
+attempt-in-requires : tie.Need-attempt-in-requires
+attempt-in-requires c κs = search needs
+
+enum-known-given : tie.Need-enum-known-given
+enum-known-given c = search needs
+
+store-requires : tie.Need-store-requires
+store-requires c κs = eight (c .before .before .before .before .before .before)
+
+enum-told : tie.Need-enum-told
+enum-told c = search needs
+
+misfit-requires-2 : tie.Need-misfit-requires-2
+misfit-requires-2 c κs = search needs
+
+same-length-2 : tie.Need-same-length-2
+same-length-2 c = search needs
+
+same-length-3 : tie.Need-same-length-3
+same-length-3 c = search needs
+
+returns-2 : tie.Need-returns-2
+returns-2 c =
+    let kept = c .before .before .before .before in
+    let given = kept .before .before .before .before in
+    let found = given .before .before in
+    let a = found .before .before .before .before .before .before .before .before .args in
+    let are = is-some (recordsIn 8 (a .records .now)) (eight (found .before)) in
+    let attempt = subst (TryingIs (a .attempt .now)) (given .given .given .1) (found .attempt-in .ensures) in
+    let last = kept .store .last .1 .1 in
+    subst (λ (s : Said Kept). Keeps s (a .records .now) (a .answer .now) (kept .store .result) (last .0) (last .1 .0))
+    (sym (store-given (a .sheet .now) (a .attempt .now) (a .records .now) (are .0) (are .1) _ attempt))
+    (kept .store .ensures (are .0) (are .1))
+
+same-length-4 : tie.Need-same-length-4
+same-length-4 c = search needs
+
+returns-3 : tie.Need-returns-3
+returns-3 c =
+    let found = c .before .before .before in
+    let a = found .before .before .before .before .before .before .before .before .args in
+    let are = is-some (recordsIn 8 (a .records .now)) (eight (found .before)) in
+    let nothing = subst (TryingIs (a .attempt .now)) (c .before .enum-told .given .1) (found .attempt-in .ensures) in
+    keeps-misfit (a .sheet .now) _ (store-nothing (a .sheet .now) (a .attempt .now) (a .records .now) (are .0) (are .1) nothing)
+    (a .records .now)
+    (a .answer .now)
+    _
+    (c .misfit2 .ensures)
+
+pub mcv-store-spec : {M : Type 1} → statement M
+mcv-store-spec =
+    tie.close
+    (tie.spec
+    are-records-requires
+    misfit-requires
+    same-length
+    returns
+    attempt-in-requires
+    enum-known-given
+    store-requires
+    enum-told
+    misfit-requires-2
+    same-length-2
+    same-length-3
+    returns-2
+    same-length-4
+    returns-3)

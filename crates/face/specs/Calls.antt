@@ -1,0 +1,128 @@
+-- What each call of the face says: the definition of the call below it, on what the rows stand for. What no value stands for is refused as what it is: a
+-- sheet with 12 line 0, before all else; a message with 5; a record, an event, an attempt, an answer or a stream with 9. A slice that is too short for what
+-- comes back is 11, last of all (docs/DECISIONS.md, 71). Assumes nothing.
+use Prim.Native.Nat.{ℕ, _+_, _*_, _^_}
+use mathlib.Core.Bool.{Bool}
+use mathlib.Core.List.{List, [], _∷_}
+use mathlib.Core.Option.{Option, none, some}
+use lib.Dec.{eqb, ltb}
+use Rattle.octets.specs.Choice.{pick}
+use Rattle.octets.specs.Buffer.{over}
+use Rattle.sheet.specs.declared.Reading.{Reading}
+use Rattle.sheet.specs.Value.{sheetIn, validAlone, validWith}
+use Rattle.sheet.specs.Value.{readOf as sheetRead}
+use Rattle.packet.specs.Walk.{Stepped, field, end, refused as stepRefused, stepOf}
+use Rattle.packet.specs.Reading.{Outcome, reads, refused}
+use Rattle.packet.specs.Reading.{readOf as packetRead}
+use Rattle.writing.specs.Writing.{Made, made, refused as notMade, writeOf}
+use Rattle.reception.specs.declared.Record.{Record}
+use Rattle.reception.specs.declared.Event.{Event}
+use Rattle.reception.specs.declared.Answer.{Answer}
+use Rattle.reception.specs.Record.{own}
+use Rattle.reception.specs.Answer.{Reply, messageOf}
+use Rattle.reception.specs.Steps.{Said, gives, refuses, check, Left, Try, readOf, attemptOf, storeOf, countOf}
+use Rattle.controller.specs.Event.{eventOf}
+use Rattle.controller.specs.Sending.{sendingOf}
+use Rattle.face.specs.Rows.{messageRow, messageIn, fieldRow, endRow, recordRow, recordsRow, recordsIn, eventRow, eventIn, replyRow, answerIn, tryRow, tryIn}
+
+-- ---- what is returned, and what a lent slice holds
+
+-- 0, or a refusal's number plus 256 times its line
+unfoldable pub code : {A : Type 0} → Said A → ℕ
+code (gives x) = 0
+code (refuses number line) = number + 256 * line
+
+-- what is given goes into the front of the slice, and what is behind it stays as it was; a refusal "changes no lent octet"
+unfoldable pub put : {A : Type 0} → (A → List ℕ) → Said A → List ℕ → List ℕ
+put row (gives x) out = over (row x) out
+put row (refuses number line) out = out
+
+-- 11 where there is not room enough for what would be given
+unfoldable pub roomy : {A : Type 0} → (A → Bool) → Said A → Said A
+roomy enough (gives x) = check (enough x) 11 (gives x)
+roomy enough (refuses number line) = refuses number line
+
+-- ---- what is said
+
+-- something else of what is given
+unfoldable pub ofGiven : {A B : Type 0} → (A → B) → Said A → Said B
+ofGiven f (gives x) = gives (f x)
+ofGiven f (refuses number line) = refuses number line
+
+-- with the value that a row stands for; refused with the number where it stands for none
+unfoldable pub standing : {A B : Type 0} → ℕ → Option A → (A → Said B) → Said B
+standing number none next = refuses number 0
+standing number (some x) next = next x
+
+-- a sheet that was read, or 12 with its line
+unfoldable pub sheetSays : List ℕ → Said Reading
+sheetSays text =
+    let r = sheetRead text in
+    pick (eqb (r .refusal .number) 0) (gives r) (refuses (r .refusal .number) (r .refusal .at))
+
+abbrev pub outcomeSays : Outcome → Said (List ℕ)
+outcomeSays (reads kind ssrc ack values) = gives (messageRow (reads kind ssrc ack values))
+outcomeSays (refused number at) = refuses number at
+
+unfoldable pub readSays : List ℕ → List ℕ → Said (List ℕ)
+readSays sheet packet = outcomeSays (packetRead (sheetIn sheet) packet)
+
+-- the packet that is written
+abbrev pub madeSays : Made → Said (List ℕ)
+madeSays (made p) = gives p
+madeSays (notMade number at) = refuses number at
+
+unfoldable pub writeSays : List ℕ → List ℕ → List ℕ → ℕ → Said (List ℕ)
+writeSays sheet message names room = madeSays (writeOf (sheetIn sheet) (messageIn message) names room)
+
+-- a field whose next place is no 32-bit number is past the end of what a host can say: 4
+abbrev pub stepSays : ℕ → Stepped → Said (List ℕ)
+stepSays place (field f) = check (ltb (f .next) (2 ^ 32)) 4 (gives (fieldRow f))
+stepSays place end = gives (endRow place)
+stepSays place (stepRefused number at) = refuses number at
+
+unfoldable pub fieldSays : List ℕ → ℕ → Said (List ℕ)
+fieldSays packet place = stepSays place (stepOf packet place)
+
+unfoldable pub eventSays : List ℕ → List (List ℕ) → List ℕ → Said (List ℕ)
+eventSays sheet users packet = ofGiven eventRow (eventOf (sheetIn sheet) users packet)
+
+-- 12 "line 0, before all other checks, for a sheet value handed to a call that no sheet reads to"
+abbrev pub under : {A : Type 0} → List ℕ → Said A → Said A
+under sheet next = check (validAlone (sheetIn sheet)) 12 next
+
+unfoldable pub seenSays : List ℕ → List ℕ → ℕ → Said (List ℕ)
+seenSays sheet records stream =
+    under sheet (standing 9 (recordsIn 8 records) (λ (rs : List Record). ofGiven recordRow (readOf (sheetIn sheet) stream rs .said)))
+
+unfoldable pub countSays : List ℕ → List ℕ → ℕ → Said (List ℕ)
+countSays sheet records stream =
+    under sheet (standing 9 (recordsIn 8 records) (λ (rs : List Record). ofGiven (λ (n : ℕ). n ∷ []) (countOf (sheetIn sheet) stream rs .said)))
+
+unfoldable pub workSays : List ℕ → List ℕ → List ℕ → Said (List ℕ)
+workSays sheet seen event =
+    under sheet (standing 9 (recordsIn 1 seen) (λ (rs : List Record).
+    standing 9 (eventIn event) (λ (e : Event). ofGiven tryRow (attemptOf (sheetIn sheet) (own rs 0) e))))
+
+-- the records afterwards, and the answer, of a store that took
+pub record Stored : Type 0 where
+  pub records : List ℕ
+  pub answer : List ℕ
+
+abbrev pub leftSays : Left Reply → Said Stored
+leftSays l = ofGiven (λ (r : Reply). record { records = recordsRow (l .records); answer = replyRow r }) (l .said)
+
+unfoldable pub storeSays : List ℕ → List ℕ → List ℕ → Said Stored
+storeSays sheet attempt records =
+    under sheet (standing 9 (tryIn attempt) (λ (a : Try).
+    standing 9 (recordsIn 8 records) (λ (rs : List Record). leftSays (storeOf (sheetIn sheet) a rs))))
+
+-- the packet to send: no octets where the answer sends none
+abbrev pub octetsOf : Option (List ℕ) → List ℕ
+octetsOf none = []
+octetsOf (some p) = p
+
+unfoldable pub packetSays : List ℕ → List (List ℕ) → ℕ → List ℕ → ℕ → Said (List ℕ)
+packetSays sheet users stream answer room =
+    check (validWith (sheetIn sheet) users) 12
+    (standing 9 (answerIn answer) (λ (a : Answer). ofGiven octetsOf (sendingOf (sheetIn sheet) users stream (messageOf a) room)))

@@ -1,0 +1,5 @@
+pub mod Rows
+pub mod Calls
+pub mod Promises
+pub mod Inner
+pub mod Claims

@@ -1,0 +1,339 @@
+// The controller's calls for a host written in C, on numbers and octets (document 01: "also called from a bench host written in C, on numbers and octets,
+// with the same answers"). Each returns 0, or a refusal's number plus 256 times its line; include/coyametzi.h says what each row holds.
+mod answer;
+mod attempt;
+mod event;
+mod message;
+mod records;
+mod told;
+
+use answer::Answering;
+use attempt::Trying;
+use controller::Offered;
+use controller::Sending;
+use event::Eventing;
+use message::Handed;
+use packet::Message;
+use packet::Reading;
+use packet::field::Field;
+use packet::field::Step;
+use reception::Answer;
+use reception::Attempt;
+use reception::Counted;
+use reception::Event;
+use reception::Seen;
+use reception::Taking;
+use reception::Worked;
+use sheet::Users;
+use sheet::numbers::LINES;
+use sheet::numbers::numbers_of;
+use told::NO_ROOM;
+use told::code;
+use told::misfit;
+use told::misfit_with;
+use told::put;
+use told::put_number;
+use writing::Writing;
+ghost use mathlib.Core.Path.{_≡_};
+ghost use mathlib.Core.Bool.{true, _&&_};
+ghost use mathlib.Core.List.{List, [], _∷_};
+ghost use mathlib.Core.Option.{some};
+ghost use Prim.Native.Nat.{_+_, _<_, _≤_, _^_};
+ghost use lib.ListN.{length};
+ghost use lib.Dec.{ltb, leb};
+ghost use Rattle.octets.specs.Choice.{pick};
+ghost use Rattle.sheet.specs.Value.{sheetIn};
+ghost use Rattle.packet.specs.Message.{messageSaid};
+ghost use Rattle.writing.specs.Writing.{writeOf};
+ghost use Rattle.reception.specs.declared.Record.{Record};
+ghost use Rattle.reception.specs.Answer.{messageOf};
+ghost use Rattle.reception.specs.Steps.{gives, check, attemptOf, attemptSaid, storeOf};
+ghost use Rattle.controller.specs.Sending.{sendingOf};
+ghost use Rattle.face.specs.Rows.{fieldRow, recordsIn, tryRow};
+ghost use Rattle.face.specs.Calls.{ofGiven, madeSays, leftSays, octetsOf};
+ghost use Rattle.face.specs.Promises.{Rowed, Wrote, Keeps, mcv-sheet≡, mcv-read≡, mcv-write≡, mcv-field≡, mcv-event≡, mcv-seen≡, mcv-work-out≡, mcv-store≡, mcv-count≡, mcv-packet≡};
+ghost use Rattle.face.specs.Inner.{isSome, WorksOut, Stores};
+
+// MCV_NONE, where there is no number.
+const NONE: u32 = 4294967295;
+
+const BAD_FIELD: u32 = 4;
+
+const NO_MESSAGE: u32 = 5;
+
+const NOT_LEGAL: u32 = 9;
+
+// A stream's number is less, as it fits an octet.
+const STREAM_END: u32 = 256;
+
+// How much of a buffer may be written into where so many numbers are lent for the count: nothing where there are none, as 11 is given then.
+fn room_of(out: usize, written: usize) -> usize
+    ensures { λ r. ⌜ (r ≡ pick (leb 1 written) out 0) × (r ≤ out) ⌝ }
+{
+    if written == 0 { 0 } else { out }
+}
+
+// ---- the sheet
+
+// Reads a sheet: its numbers, its User IDs and the octets used, or 12 with its line, or 11.
+#[no_mangle]
+pub extern "C" fn mcv_sheet(
+    text: &[u8],
+    sheet: &mut [u32],
+    users: &mut Users,
+    used: &mut [u32],
+) -> u32
+    ensures { λ r. ⌜ mcv-sheet≡ (now (text .entry)) (now (sheet .entry)) (now (users .entry)) (now (used .entry)) r (now (sheet .exit)) (now (users .exit)) (now (used .exit)) ⌝ }
+{
+    let reading = sheet::read(text);
+    let refusal = reading.refusal;
+    if refusal.number != 0 {
+        return code(refusal);
+    }
+    if sheet.len() < LINES {
+        return NO_ROOM;
+    }
+    if used.len() == 0 {
+        return NO_ROOM;
+    }
+    let read = reading.sheet;
+    let row = numbers_of(read);
+    put(sheet, &row[..]);
+    *users = sheet::users(text);
+    used[0] = reading.used as u32;
+    0
+}
+
+// ---- packets
+
+// Reads a packet: the message's row, or 12 line 0, 1 to 5 or 11.
+#[no_mangle]
+pub extern "C" fn mcv_read(sheet: &[u32], packet: &[u8], message: &mut [u32]) -> u32
+    ensures { λ r. ⌜ mcv-read≡ (now (sheet .entry)) (now (packet .entry)) (now (message .entry)) r (now (message .exit)) ⌝ }
+{
+    match packet::read_lent(sheet, packet) {
+        Reading::Read(read) => message::put_row(message, read),
+        Reading::Refused(refusal) => code(refusal),
+    }
+}
+
+// Writes a message, and how many octets.
+fn write(sheet: &[u32], message: Message, names: &[u8], out: &mut [u8], written: &mut [u32]) -> u32
+    ensures { λ r. ⌜ Wrote (madeSays (writeOf (sheetIn (now (sheet .entry))) (messageSaid message) (now (names .entry)) (length (now (out .entry))))) (now (out .entry)) (now (written .entry)) r (now (out .exit)) (now (written .exit)) ⌝ }
+{
+    let room = room_of(out.len(), written.len());
+    match writing::write_lent(sheet, message, names, &mut out[..room]) {
+        Writing::Written(octets) => put_number(written, octets as u32),
+        Writing::Refused(refusal) => code(refusal),
+    }
+}
+
+// Writes the message of a row: the packet and how many octets, or 12 line 0, 5 or 11.
+#[no_mangle]
+pub extern "C" fn mcv_write(
+    sheet: &[u32],
+    message: &[u32],
+    names: &[u8],
+    out: &mut [u8],
+    written: &mut [u32],
+) -> u32
+    ensures { λ r. ⌜ mcv-write≡ (now (sheet .entry)) (now (message .entry)) (now (names .entry)) (now (out .entry)) (now (written .entry)) r (now (out .exit)) (now (written .exit)) ⌝ }
+{
+    match message::message_in(message) {
+        Handed::Message(given) => write(sheet, given, names, out, written),
+        Handed::Nothing => misfit(sheet, NO_MESSAGE),
+    }
+}
+
+// Puts a field's row into the front of a slice, or 4 where its next place is no 32-bit number, or 11.
+fn put_field(out: &mut [u32], field: Field) -> u32
+    requires { ⌜ (field .at + 2 ≤ field .next) × (field .len < 256) ⌝ }
+    ensures { λ r. ⌜ Rowed (check (ltb (field .next) (2 ^ 32)) 4 (gives (fieldRow field))) (now (out .entry)) r (now (out .exit)) ⌝ }
+{
+    if 4294967295 < field.next {
+        return BAD_FIELD;
+    }
+    let row = [
+        field.id as u32,
+        (field.at + 2) as u32,
+        field.len as u32,
+        field.next as u32,
+    ];
+    put(out, &row[..])
+}
+
+// The field at a place of any octets: its row, or the end's, or 4 or 11.
+#[no_mangle]
+pub extern "C" fn mcv_field(packet: &[u8], place: u32, field: &mut [u32]) -> u32
+    ensures { λ r. ⌜ mcv-field≡ (now (packet .entry)) place (now (field .entry)) r (now (field .exit)) ⌝ }
+{
+    match packet::field::field_at(packet, place as usize) {
+        Step::Field(found) => put_field(field, found),
+        Step::End => {
+            let row = [NONE, place, 0, place];
+            put(field, &row[..])
+        }
+        Step::Refused(refusal) => code(refusal),
+    }
+}
+
+// ---- streams
+
+// The event that a packet makes: its row, or 12 line 0, 1 to 5, 8, 6, 7 or 11.
+#[no_mangle]
+pub extern "C" fn mcv_event(sheet: &[u32], users: &Users, packet: &[u8], event: &mut [u32]) -> u32
+    ensures { λ r. ⌜ mcv-event≡ (now (sheet .entry)) (now (users .entry)) (now (packet .entry)) (now (event .entry)) r (now (event .exit)) ⌝ }
+{
+    match controller::event_lent(sheet, users, packet) {
+        Offered::Event(offered) => event::put_row(event, offered),
+        Offered::Refused(refusal) => code(refusal),
+    }
+}
+
+// Whether these are eight records, and a stream's number fits an octet.
+fn are_right(records: &[u8], stream: u32) -> bool
+    ensures { λ r. ⌜ r ≡ (isSome (recordsIn 8 (now (records .entry))) && ltb stream 256) ⌝ }
+{
+    if !records::are_records(records) {
+        return false;
+    }
+    stream < STREAM_END
+}
+
+// A stream's record, or 12 line 0, 9 or 11.
+#[no_mangle]
+pub extern "C" fn mcv_seen(sheet: &[u32], records: &[u8], stream: u32, seen: &mut [u8]) -> u32
+    ensures { λ r. ⌜ mcv-seen≡ (now (sheet .entry)) (now (records .entry)) stream (now (seen .entry)) r (now (seen .exit)) ⌝ }
+{
+    if !are_right(records, stream) {
+        return misfit(sheet, NOT_LEGAL);
+    }
+    match reception::read_lent(sheet, records::streams_in(records), stream as u8) {
+        Seen::Read(own) => records::put_record(seen, own),
+        Seen::Refused(refusal) => code(refusal),
+    }
+}
+
+// C11 of a stream, or 12 line 0, 9 or 11.
+#[no_mangle]
+pub extern "C" fn mcv_count(sheet: &[u32], records: &[u8], stream: u32, count: &mut [u32]) -> u32
+    ensures { λ r. ⌜ mcv-count≡ (now (sheet .entry)) (now (records .entry)) stream (now (count .entry)) r (now (count .exit)) ⌝ }
+{
+    if !are_right(records, stream) {
+        return misfit(sheet, NOT_LEGAL);
+    }
+    match reception::count_lent(sheet, records::streams_in(records), stream as u8) {
+        Counted::Count(number) => put_number(count, number),
+        Counted::Refused(refusal) => code(refusal),
+    }
+}
+
+// What an event makes of a record.
+fn work_out(sheet: &[u32], seen: &[u8], event: Event, attempt: &mut [u32]) -> u32
+    requires { ⌜ isSome (recordsIn 1 (now seen)) ≡ true ⌝ }
+    ensures { λ r. ⌜ WorksOut (now (sheet .entry)) (now (seen .entry)) event (now (attempt .entry)) r (now (attempt .exit)) ⌝ }
+{
+    match reception::work_out_lent(sheet, records::record_in(seen), event) {
+        Worked::Out(worked) => attempt::put_row(attempt, worked),
+        Worked::Refused(refusal) => code(refusal),
+    }
+}
+
+// What the event of a row makes of a record: the attempt's row, or 12 line 0, 9 or 11.
+#[no_mangle]
+pub extern "C" fn mcv_work_out(
+    sheet: &[u32],
+    seen: &[u8],
+    event: &[u32],
+    attempt: &mut [u32],
+) -> u32
+    ensures { λ r. ⌜ mcv-work-out≡ (now (sheet .entry)) (now (seen .entry)) (now (event .entry)) (now (attempt .entry)) r (now (attempt .exit)) ⌝ }
+{
+    if !records::is_record(seen) {
+        return misfit(sheet, NOT_LEGAL);
+    }
+    match event::event_in(event) {
+        Eventing::Event(given) => work_out(sheet, seen, given, attempt),
+        Eventing::Nothing => misfit(sheet, NOT_LEGAL),
+    }
+}
+
+// Stores an attempt, and gives its answer. Of the records, the stream's own two octets alone are written.
+fn store(sheet: &[u32], attempt: Attempt, records: &mut [u8], answer: &mut [u32]) -> u32
+    requires { ⌜ isSome (recordsIn 8 (now records)) ≡ true ⌝ }
+    ensures { λ r. ⌜ Stores (now (sheet .entry)) attempt (now (records .entry)) (now (answer .entry)) r (now (records .exit)) (now (answer .exit)) ⌝ }
+{
+    let stream = attempt.stream as usize;
+    let wanted = attempt.wanted;
+    let stored = reception::store_lent(sheet, attempt, records::streams_in(records));
+    let taking = stored.taking;
+    match taking {
+        Taking::Took(given) => {
+            let returned = answer::put_row(answer, given);
+            if returned == 0 {
+                records::put_at(records, stream, wanted);
+            }
+            returned
+        }
+        Taking::Refused(refusal) => code(refusal),
+    }
+}
+
+// Stores the attempt of a row: the records in place and the answer's row, or 12 line 0, 9, 10 or 11.
+#[no_mangle]
+pub extern "C" fn mcv_store(
+    sheet: &[u32],
+    attempt: &[u32],
+    records: &mut [u8],
+    answer: &mut [u32],
+) -> u32
+    ensures { λ r. ⌜ mcv-store≡ (now (sheet .entry)) (now (attempt .entry)) (now (records .entry)) (now (answer .entry)) r (now (records .exit)) (now (answer .exit)) ⌝ }
+{
+    if !records::are_records(records) {
+        return misfit(sheet, NOT_LEGAL);
+    }
+    match attempt::attempt_in(attempt) {
+        Trying::Attempt(given) => store(sheet, given, records, answer),
+        Trying::Nothing => misfit(sheet, NOT_LEGAL),
+    }
+}
+
+// Writes the packet that an answer sends, and how many octets.
+fn send(
+    sheet: &[u32],
+    users: &Users,
+    stream: u8,
+    answer: Answer,
+    out: &mut [u8],
+    written: &mut [u32],
+) -> u32
+    ensures { λ r. ⌜ Wrote (ofGiven octetsOf (sendingOf (sheetIn (now (sheet .entry))) (now (users .entry)) stream (messageOf answer) (length (now (out .entry))))) (now (out .entry)) (now (written .entry)) r (now (out .exit)) (now (written .exit)) ⌝ }
+{
+    let room = room_of(out.len(), written.len());
+    match controller::packet_lent(sheet, users, stream, answer, &mut out[..room]) {
+        Sending::Written(octets) => put_number(written, octets as u32),
+        Sending::Nothing => put_number(written, 0),
+        Sending::Refused(refusal) => code(refusal),
+    }
+}
+
+// Writes the packet that the answer of a row sends on a stream: the packet and how many octets, none where it sends none, or 12 line 0, 9 or 11.
+#[no_mangle]
+pub extern "C" fn mcv_packet(
+    sheet: &[u32],
+    users: &Users,
+    stream: u32,
+    answer: &[u32],
+    out: &mut [u8],
+    written: &mut [u32],
+) -> u32
+    ensures { λ r. ⌜ mcv-packet≡ (now (sheet .entry)) (now (users .entry)) stream (now (answer .entry)) (now (out .entry)) (now (written .entry)) r (now (out .exit)) (now (written .exit)) ⌝ }
+{
+    if STREAM_END <= stream {
+        return misfit_with(sheet, users, NOT_LEGAL);
+    }
+    match answer::answer_in(answer) {
+        Answering::Answer(given) => send(sheet, users, stream as u8, given, out, written),
+        Answering::Nothing => misfit_with(sheet, users, NOT_LEGAL),
+    }
+}
