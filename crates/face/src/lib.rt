@@ -36,8 +36,6 @@ use told::put_number;
 use writing::Writing;
 ghost use mathlib.Core.Path.{_≡_};
 ghost use mathlib.Core.Bool.{true, _&&_};
-ghost use mathlib.Core.List.{List, [], _∷_};
-ghost use mathlib.Core.Option.{some};
 ghost use Prim.Native.Nat.{_+_, _<_, _≤_, _^_};
 ghost use lib.ListN.{length};
 ghost use lib.Dec.{ltb, leb};
@@ -45,13 +43,12 @@ ghost use Rattle.octets.specs.Choice.{pick};
 ghost use Rattle.sheet.specs.Value.{sheetIn};
 ghost use Rattle.packet.specs.Message.{messageSaid};
 ghost use Rattle.writing.specs.Writing.{writeOf};
-ghost use Rattle.reception.specs.declared.Record.{Record};
 ghost use Rattle.reception.specs.Answer.{messageOf};
-ghost use Rattle.reception.specs.Steps.{gives, check, attemptOf, attemptSaid, storeOf};
+ghost use Rattle.reception.specs.Steps.{gives, check};
 ghost use Rattle.controller.specs.Sending.{sendingOf};
-ghost use Rattle.face.specs.Rows.{fieldRow, recordsIn, tryRow};
-ghost use Rattle.face.specs.Calls.{ofGiven, madeSays, leftSays, octetsOf};
-ghost use Rattle.face.specs.Promises.{Rowed, Wrote, Keeps, mcv-sheet≡, mcv-read≡, mcv-write≡, mcv-field≡, mcv-event≡, mcv-seen≡, mcv-work-out≡, mcv-store≡, mcv-count≡, mcv-packet≡};
+ghost use Rattle.face.specs.Rows.{fieldRow, recordsIn};
+ghost use Rattle.face.specs.Calls.{ofGiven, madeSays, octetsOf};
+ghost use Rattle.face.specs.Promises.{Rowed, Wrote, mcv-sheet≡, mcv-read≡, mcv-write≡, mcv-field≡, mcv-event≡, mcv-seen≡, mcv-work-out≡, mcv-store≡, mcv-count≡, mcv-packet≡};
 ghost use Rattle.face.specs.Inner.{isSome, WorksOut, Stores};
 
 // MCV_NONE, where there is no number.

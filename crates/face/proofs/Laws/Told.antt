@@ -9,7 +9,7 @@ use borrow.Author.Tests.{le-leb, lt-leb}
 use Rattle.octets.specs.Choice.{pick}
 use Rattle.octets.specs.Buffer.{over}
 use Rattle.reception.specs.Steps.{Said, gives, refuses, check}
-use Rattle.face.specs.Calls.{code, put, roomy, ofGiven}
+use Rattle.face.specs.Calls.{code, put, roomy}
 use Rattle.face.specs.Promises.{Rowed, Wrote, Keeps}
 
 -- ---- a refusal is told by its code, and leaves what was lent
@@ -47,11 +47,6 @@ Plain (refuses number line) = (number < 256) × (line < 256)
 pub plain-check : {A : Type 0} (b : Bool) (number : ℕ) (x : Said A) → number < 256 → Plain x → Plain (check b number x)
 plain-check true number x h t = t
 plain-check false number x h t = (h, omega arith)
-
-pub plain-of : {A B : Type 0} (f : A → B) (x : Said A) → Plain x → Plain (ofGiven f x)
-unfolding ofGiven
-plain-of f (gives x) t = tt
-plain-of f (refuses number line) t = t
 
 -- ---- a row goes into the front of what was lent, or 11
 
