@@ -57,10 +57,10 @@ extern "C" {
 
 #define MCV_REQUEST 1      /* a seat asks to watch (kind 1) */
 #define MCV_END 2          /* a seat watches no longer (kind 3) */
-#define MCV_OPEN 3         /* the transmission begins */
-#define MCV_T11 4          /* the idle timer ran out */
+#define MCV_OPEN 3         /* the transmission begins (Media Transmission Notify) */
+#define MCV_T11 4          /* T11, the idle timer, expired */
 #define MCV_END_RESPONSE 5 /* the transmitter's answer to a Transmission end request (kind 6) */
-#define MCV_RELEASE 6      /* the transmission is over, or was taken away */
+#define MCV_RELEASE 6      /* the transmission is over (Transmission End Notify) */
 
 /* ---- Phases of a stream */
 
@@ -147,7 +147,8 @@ uint32_t mcv_count(const uint32_t *sheet, size_t sheet_count, const uint8_t *rec
                    uint32_t *count, size_t count_count);
 
 /* The packet that an answer on a stream sends, and how many octets it has; 0 where it sends none, and `out` is then left alone and may have any count.
- * A grant, a rejection and an end response go to the seat that asked, the event's `by`; an end request and an Ack to the stream's own seat. */
+ * A grant, a rejection and a Media reception end response go to the seat that asked, the event's `by`; a Transmission end request and an Ack to the stream's own
+ * seat. */
 uint32_t mcv_packet(const uint32_t *sheet, size_t sheet_count, const uint8_t users[MCV_USERS], uint32_t stream, const uint32_t *answer, size_t answer_count,
                     uint8_t *out, size_t out_count, uint32_t *written, size_t written_count);
 

@@ -24,6 +24,12 @@ static const struct edge {
     { "resultid=14", S("1", "7", "14"), 10 },
 };
 
+/* What the answers below send, P1, P2 and P4 among it. */
+#define GRANT_PACKET "82CC0003000003E84D43563114020001"
+#define CAUSE_0_PACKET "82CC0004000003E84D4356311402000002020000"
+#define CAUSE_1_PACKET "82CC0004000003E84D4356311402000002020001"
+#define END_REQUEST_PACKET "85CC0003000003E84D43563202020008"
+
 /* A packet that makes no event is refused with 8. */
 #define NO_EVENT { 0, 0, 0, 0 }
 
@@ -31,12 +37,12 @@ static const struct packet {
     const char *name, *hex;
     uint32_t message[MCV_MESSAGE], event[MCV_EVENT];
 } packets[] = {
-    { "P1 grant", "82CC0003000003E84D43563114020001", { 2, 1000, 0, 0, 0, 0, 0, 1, MCV_NONE, MCV_NONE, MCV_NONE, MCV_NONE }, NO_EVENT },
-    { "P2 rejection, cause 0", "82CC0004000003E84D4356311402000002020000",
+    { "P1 grant", GRANT_PACKET, { 2, 1000, 0, 0, 0, 0, 0, 1, MCV_NONE, MCV_NONE, MCV_NONE, MCV_NONE }, NO_EVENT },
+    { "P2 rejection, cause 0", CAUSE_0_PACKET,
       { 2, 1000, 0, 0, 0, 0, 0, 0, 0, MCV_NONE, MCV_NONE, MCV_NONE }, NO_EVENT },
     { "P3 request of seat 1 for seat 0", "81CC0006000000024D43563006057369703A620006057369703A6100",
       { 1, 2, 0, 14, 5, 22, 5, MCV_NONE, MCV_NONE, MCV_NONE, MCV_NONE, MCV_NONE }, { MCV_REQUEST, 0, 1, 0 } },
-    { "P4 end request for cause 8", "85CC0003000003E84D43563202020008",
+    { "P4 end request for cause 8", END_REQUEST_PACKET,
       { 5, 1000, 0, 0, 0, 0, 0, MCV_NONE, 8, MCV_NONE, MCV_NONE, MCV_NONE }, NO_EVENT },
     { "P5 Ack", "87CC0004000003E84D4356320A0200020C020100",
       { 7, 1000, 0, 0, 0, 0, 0, MCV_NONE, MCV_NONE, MCV_NONE, 2, 1 }, NO_EVENT },
@@ -45,11 +51,6 @@ static const struct packet {
 #define GRANT(stop, start) { MCV_GRANTED, MCV_RECEIVE_RESPONSE, 1, MCV_NONE, stop, start }
 #define REJECT(cause) { MCV_REJECTED, MCV_RECEIVE_RESPONSE, 0, cause, 0, 0 }
 #define END_REQUEST { MCV_END_REQUESTED, MCV_TRANSMISSION_END_REQUEST, MCV_NONE, 8, 0, MCV_TIMER_T3 }
-#define GRANT_PACKET "82CC0003000003E84D43563114020001"
-#define CAUSE_0_PACKET "82CC0004000003E84D4356311402000002020000"
-#define CAUSE_1_PACKET "82CC0004000003E84D4356311402000002020001"
-#define END_REQUEST_PACKET "85CC0003000003E84D43563202020008"
-
 /* An event on stream 0. */
 struct step {
     const char *name;

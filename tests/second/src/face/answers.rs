@@ -1,4 +1,4 @@
-//! What each call answers, from document 01 and the face's table: sheet and users first, then what the call judges, and
+//! What each call answers, from document 01 and include/coyametzi.h: sheet and users first, then what the call judges, and
 //! out slices that are too short last of all.
 
 use super::call::{Answer, Call, Function, Part};

@@ -3,7 +3,7 @@
 use super::call::{Call, Parameter, Part, LONGEST_SLICE};
 use super::rows::RECORDS;
 use crate::random::Random;
-use crate::sheet::WIDTH;
+use crate::sheet::{SEATS, WIDTH};
 
 /// Numbers at and about the edges of all that a number can mean in a row.
 const NUMBERS: [u32; 33] = [
@@ -53,7 +53,7 @@ fn octets(octets: &[u8], places: impl Iterator<Item = usize>) -> Vec<Change> {
 
 /// The first octets of every User ID, one in its middle, and its last.
 fn places_in_users() -> impl Iterator<Item = usize> {
-    (0..RECORDS / 2).flat_map(|s| [0, 1, 4, 5, 30, WIDTH - 1].map(|at| WIDTH * s + at))
+    (0..SEATS).flat_map(|s| [0, 1, 4, 5, 30, WIDTH - 1].map(|at| WIDTH * s + at))
 }
 
 /// Every change of a parameter that is read. Octets of texts, packets and names are not changed here.

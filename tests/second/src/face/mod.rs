@@ -1,4 +1,4 @@
-//! The C face: what its calls answer, from document 01 and the face's table, and what is asked of them.
+//! The C face: what its calls answer, from document 01 and include/coyametzi.h, and what is asked of them.
 
 mod answers;
 #[cfg(test)]

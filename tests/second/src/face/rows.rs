@@ -1,4 +1,4 @@
-//! The rows of the face, read from its table alone: what each row stands for, and none where nothing does.
+//! The rows of the face, read from include/coyametzi.h alone: what each row stands for, and none where nothing does.
 
 use crate::controller::answers::{self, Numbered};
 use crate::packet::{kinds, Message, INDICATED};
