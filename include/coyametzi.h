@@ -107,7 +107,8 @@ extern "C" {
 
 /* ---- The sheet */
 
-/* Reads a call sheet from the front of a text: its numbers, its User IDs, and how many octets it took. It lays out tables on its own stack. */
+/* Reads a call sheet from the front of a text: its numbers, its User IDs, and how many octets it took. It lays out tables on its own stack, some
+ * 1,700 octets in all. */
 uint32_t mcv_sheet(const uint8_t *text, size_t text_count, uint32_t *sheet, size_t sheet_count, uint8_t users[MCV_USERS], uint32_t *used, size_t used_count);
 
 /* ---- Packets */

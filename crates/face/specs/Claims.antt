@@ -18,9 +18,8 @@ use Rattle.reception.specs.declared.Event.{Event}
 use Rattle.reception.specs.declared.Answer.{Answer}
 use Rattle.reception.specs.Answer.{Sent, messageOf, answerSaid}
 use Rattle.reception.specs.Steps.{gives, Try}
-use Rattle.face.specs.Rows.{messageRow, messageIn, recordsRow, recordsIn, eventRow, eventIn, answerRow, answerIn, tryRow, tryIn}
+use Rattle.face.specs.Rows.{sheetRow, messageRow, messageIn, recordsRow, recordsIn, eventRow, eventIn, answerRow, answerIn, tryRow, tryIn}
 use Rattle.face.specs.Calls.{Stored, sheetSays, storeSays}
-use Rattle.face.specs.Promises.{sheetRow}
 
 -- of a sheet that was read, the numbers are the sheet's and go with the User IDs
 abbrev pub SheetsStand : Type 0

@@ -3,13 +3,14 @@
 use mathlib.Core.Path.{_≡_}
 use Prim.Native.Nat.{ℕ}
 use mathlib.Core.Bool.{_&&_}
-use mathlib.Core.List.{List, [], _∷_, _++_}
+use mathlib.Core.List.{List, [], _∷_}
 use lib.ListN.{length}
 use lib.Dec.{leb}
 use Rattle.octets.specs.Promises.{one-value}
 use Rattle.sheet.specs.declared.Reading.{Reading}
-use Rattle.sheet.specs.Value.{numbersOf, usersIn}
+use Rattle.sheet.specs.Value.{usersIn}
 use Rattle.reception.specs.Steps.{Said, gives, refuses}
+use Rattle.face.specs.Rows.{sheetRow}
 use Rattle.face.specs.Calls.{code, put, roomy, sheetSays, readSays, writeSays, fieldSays, eventSays, seenSays, countSays, workSays, Stored, storeSays, packetSays}
 
 -- ---- calls that give one row
@@ -121,10 +122,6 @@ mcv-store-once sheet attempt records answer x y now other given another e f =
     (one-value x y (e .0) (f .0), one-value now other (e .1) (f .1), one-value given another (e .2) (f .2))
 
 -- ---- a sheet
-
--- its numbers with the SSRCs behind them
-abbrev pub sheetRow : Reading → List ℕ
-sheetRow x = numbersOf (x .sheet) ++ x .sheet .ssrcs
 
 -- the User IDs, eight rows in one slice of a fixed size
 unfoldable pub usersAfter : List ℕ → Said Reading → List (List ℕ) → List (List ℕ)

@@ -7,6 +7,8 @@ use mathlib.Core.Option.{Option, none, some}
 use lib.ListN.{length, getD, set, drop}
 use lib.Dec.{eqb, ltb}
 use Rattle.octets.specs.Choice.{pick, same, first-by}
+use Rattle.sheet.specs.declared.Reading.{Reading}
+use Rattle.sheet.specs.Value.{numbersOf}
 use Rattle.packet.specs.declared.field.Field.{Field}
 use Rattle.packet.specs.Judge.{Held, absent, given, named}
 use Rattle.packet.specs.Reading.{Outcome, reads, refused}
@@ -43,6 +45,11 @@ abbrev pub both : {A B C : Type 0} → (A → B → C) → Option A → Option B
 both f none b = none
 both f (some x) none = none
 both f (some x) (some y) = some (f x y)
+
+-- ---- a sheet: its numbers in the order of the lines, the SSRCs behind them
+
+abbrev pub sheetRow : Reading → List ℕ
+sheetRow x = numbersOf (x .sheet) ++ x .sheet .ssrcs
 
 -- ---- a message: kind, SSRC, Ack asked, User ID's place and length, named transmitter's place and length, Result, cause, Indicator, Source,
 -- Message Type

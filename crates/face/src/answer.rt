@@ -1,5 +1,6 @@
 // An answer as a row of numbers: its number, the kind of the message to send or 0, Result and cause, timers to stop, timers to start.
 use super::NONE;
+use super::told::NUMBER_END;
 use super::told::put;
 use reception::Answer;
 ghost use mathlib.Core.Path.{_≡_};
@@ -11,9 +12,6 @@ ghost use Rattle.face.specs.Inner.{likelyAnswer, likelyGrant, likelyEnd,
 
 // How many numbers an answer's row has.
 pub const ANSWER: usize = 6;
-
-// A cause is less.
-const CAUSE_END: u32 = 65536;
 
 // The timers, as they are summed.
 const T3: u32 = 1;
@@ -122,7 +120,7 @@ fn likely(done: u32, kind: u32, cause: u16, stops: u32, starts: u32) -> Answer
 fn answer_of(done: u32, kind: u32, result: u32, cause: u32, stops: u32, starts: u32) -> Answering
     ensures { λ r. ⌜ answeringSaid r ≡ answerIn (done ∷ kind ∷ result ∷ cause ∷ stops ∷ starts ∷ []) ⌝ }
 {
-    let answer = likely(done, kind, (cause % CAUSE_END) as u16, stops, starts);
+    let answer = likely(done, kind, (cause % NUMBER_END) as u16, stops, starts);
     let own = row_of(answer);
     if own[0] != done {
         return Answering::Nothing;

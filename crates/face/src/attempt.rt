@@ -3,6 +3,7 @@ use super::answer;
 use super::answer::ANSWER;
 use super::answer::Answering;
 use super::records;
+use super::told::OCTET_END;
 use super::told::put;
 use reception::Answer;
 use reception::Attempt;
@@ -18,9 +19,6 @@ ghost use Rattle.face.specs.Inner.{octetsRight, AttemptWith, TryingIs};
 const GIVEN: usize = 5;
 
 const ATTEMPT: usize = GIVEN + ANSWER;
-
-// A number that fits an octet is less.
-const OCTET_END: u32 = 256;
 
 // The attempt that a row stands for, if it stands for one with a seat and receivers that fit an octet.
 pub enum Trying {

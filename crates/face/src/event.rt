@@ -1,4 +1,5 @@
 // An event as a row of numbers: what, stream, by, Ack asked.
+use super::told::OCTET_END;
 use super::told::put;
 use reception::Event;
 use reception::What;
@@ -10,9 +11,6 @@ ghost use Rattle.face.specs.Inner.{likelyWhat, EventingIs};
 
 // How many numbers an event's row has.
 const EVENT: usize = 4;
-
-// A seat's number is less.
-const SEAT_END: u32 = 256;
 
 // The event that a row stands for, if it stands for one with seats that fit an octet.
 pub enum Eventing {
@@ -69,10 +67,10 @@ pub fn event_in(row: &[u32]) -> Eventing
     }
     let stream = row[1];
     let by = row[2];
-    if SEAT_END <= stream {
+    if OCTET_END <= stream {
         return Eventing::Nothing;
     }
-    if SEAT_END <= by {
+    if OCTET_END <= by {
         return Eventing::Nothing;
     }
     let what = likely(row[0], by as u8, row[3] == 1);

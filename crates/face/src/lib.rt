@@ -28,6 +28,7 @@ use sheet::Users;
 use sheet::numbers::LINES;
 use sheet::numbers::numbers_of;
 use told::NO_ROOM;
+use told::OCTET_END;
 use told::code;
 use told::misfit;
 use told::misfit_with;
@@ -59,9 +60,6 @@ const BAD_FIELD: u32 = 4;
 const NO_MESSAGE: u32 = 5;
 
 const NOT_LEGAL: u32 = 9;
-
-// A stream's number is less, as it fits an octet.
-const STREAM_END: u32 = 256;
 
 // How much of a buffer may be written into where so many numbers are lent for the count: nothing where there are none, as 11 is given then.
 fn room_of(out: usize, written: usize) -> usize
@@ -194,7 +192,7 @@ fn are_right(records: &[u8], stream: u32) -> bool
     if !records::are_records(records) {
         return false;
     }
-    stream < STREAM_END
+    stream < OCTET_END
 }
 
 // A stream's record, or 12 line 0, 9 or 11.
@@ -326,7 +324,7 @@ pub extern "C" fn mcv_packet(
 ) -> u32
     ensures { λ r. ⌜ mcv-packet≡ (now (sheet .entry)) (now (users .entry)) stream (now (answer .entry)) (now (out .entry)) (now (written .entry)) r (now (out .exit)) (now (written .exit)) ⌝ }
 {
-    if STREAM_END <= stream {
+    if OCTET_END <= stream {
         return misfit_with(sheet, users, NOT_LEGAL);
     }
     match answer::answer_in(answer) {

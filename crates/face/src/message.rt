@@ -1,6 +1,8 @@
 // A message as a row of numbers: kind, SSRC, Ack asked, User ID's place and length, named transmitter's place and length, Result, cause, Indicator,
 // Source, Message Type.
 use super::NONE;
+use super::told::NUMBER_END;
+use super::told::OCTET_END;
 use super::told::put;
 use packet::Head;
 use packet::Indicator;
@@ -24,15 +26,10 @@ const MESSAGE: usize = 12;
 // Where in it the names end and the numbers behind them begin.
 const NUMBERS: usize = 7;
 
-// A number of 16 bits is less, and one of 8.
-const NUMBER_END: u32 = 65536;
-
-const OCTET_END: u32 = 256;
-
 // Where a message has no name.
 const NOBODY: Name = Name { at: 0, len: 0 };
 
-// The message that a row stands for, if it stands for one that some packet reads to.
+// The message that a row stands for; nothing only where no packet reads to it.
 pub enum Handed {
     Message(Message),
     Nothing,

@@ -15,6 +15,11 @@ const NO_SHEET: u32 = 12;
 
 pub const NO_ROOM: u32 = 11;
 
+// A number of 8 bits is less, and one of 16.
+pub const OCTET_END: u32 = 256;
+
+pub const NUMBER_END: u32 = 65536;
+
 // A refusal's number and 256 times its line.
 pub fn code(refusal: Refusal) -> u32
     requires { ⌜ (refusal .number < 256) × (refusal .at < 256) ⌝ }

@@ -17,7 +17,7 @@ use Rattle.reception.specs.declared.Answer.the-variants.{GrantedFirst, Granted,
 use Rattle.reception.specs.Answer.{Sent, reply, doneBy, messageOf, timersOf}
 use Rattle.reception.specs.Answer.{messageOf}
 use Rattle.face.specs.Rows.{timersSum, replyRow, answerRow, answersFor, answerIn}
-use Rattle.face.specs.Claims.{Narrow as NarrowSent}
+use Rattle.face.specs.Claims.{Narrow}
 use Rattle.face.specs.Inner.{likelyAnswers, likelyAnswer}
 use Rattle.face.proofs.Laws.Whose.{all-getD, all-weaker, getD-rest, whose-none, whose-some}
 
@@ -27,18 +27,18 @@ likelyIn row = likelyAnswer (getD row 0 0) (getD row 1 0) (getD row 3 0 % 65536)
 
 -- ---- causes of 16 bits
 
-abbrev pub Narrow : Answer → Type 0
-Narrow a = NarrowSent (messageOf a)
+abbrev pub NarrowAnswer : Answer → Type 0
+NarrowAnswer a = Narrow (messageOf a)
 
-narrow-pick : (b : Bool) (x y : Answer) → Narrow x → Narrow y → Narrow (pick b x y)
+narrow-pick : (b : Bool) (x y : Answer) → NarrowAnswer x → NarrowAnswer y → NarrowAnswer (pick b x y)
 narrow-pick true x y h k = h
 narrow-pick false x y h k = k
 
 -- a likely answer has such a cause
-likely-narrow : (done kind cause stops starts : ℕ) → cause < 65536 → Narrow (likelyAnswer done kind cause stops starts)
+likely-narrow : (done kind cause stops starts : ℕ) → cause < 65536 → NarrowAnswer (likelyAnswer done kind cause stops starts)
 likely-narrow done kind cause stops starts h =
-    let each : All Narrow (likelyAnswers kind cause stops starts) = search (narrow-pick) in
-    all-getD Narrow (likelyAnswers kind cause stops starts) Discarded each tt done
+    let each : All NarrowAnswer (likelyAnswers kind cause stops starts) = search (narrow-pick) in
+    all-getD NarrowAnswer (likelyAnswers kind cause stops starts) Discarded each tt done
 
 -- ---- an answer's own row
 
@@ -46,7 +46,7 @@ narrow-mod : (c : ℕ) → c < 65536 → c % 65536 ≡ c
 narrow-mod c h = omega arith
 
 -- its likely answer is the answer
-pub likely-own : (a : Answer) → Narrow a → likelyIn (answerRow a) ≡ a
+pub likely-own : (a : Answer) → NarrowAnswer a → likelyIn (answerRow a) ≡ a
 unfolding timersSum
 likely-own (Rejected c) h = rw (narrow-mod c h)
 likely-own (EndRequested c) h = rw (narrow-mod c h)
@@ -64,19 +64,19 @@ likely-own ReleasedEnding h = refl
 likely-own Discarded h = refl
 
 -- all answers of a row have such a cause
-pub narrow-each : (c : ℕ) → All Narrow (answersFor c)
+pub narrow-each : (c : ℕ) → All NarrowAnswer (answersFor c)
 unfolding answersFor
 narrow-each c =
-    let last : All Narrow (pick (ltb c 65536) (Rejected c ∷ EndRequested c ∷ []) []) =
-    pick-cases (All Narrow) (ltb c 65536) (Rejected c ∷ EndRequested c ∷ []) [] (λ t. (ltb→lt c 65536 t, (ltb→lt c 65536 t, tt))) (λ f. tt) in
+    let last : All NarrowAnswer (pick (ltb c 65536) (Rejected c ∷ EndRequested c ∷ []) []) =
+    pick-cases (All NarrowAnswer) (ltb c 65536) (Rejected c ∷ EndRequested c ∷ []) [] (λ t. (ltb→lt c 65536 t, (ltb→lt c 65536 t, tt))) (λ f. tt) in
     (tt, (tt, (tt, (tt, (tt, (tt, (tt, (tt, (tt, (tt, (tt, (tt, last))))))))))))
 
 -- so it is for them
 likely-each : (c : ℕ) → All (λ a. likelyIn (answerRow a) ≡ a) (answersFor c)
-likely-each c = all-weaker Narrow (λ a. likelyIn (answerRow a) ≡ a) likely-own (answersFor c) (narrow-each c)
+likely-each c = all-weaker NarrowAnswer (λ a. likelyIn (answerRow a) ≡ a) likely-own (answersFor c) (narrow-each c)
 
 -- and the answer is among them
-among : (a : Answer) → Narrow a → T (some-of (λ b. same (answerRow b) (answerRow a)) (answersFor (getD (answerRow a) 3 0)))
+among : (a : Answer) → NarrowAnswer a → T (some-of (λ b. same (answerRow b) (answerRow a)) (answersFor (getD (answerRow a) 3 0)))
 unfolding answersFor timersSum
 among (Rejected c) h = let row = answerRow (Rejected c) in rw (lt-ltb c 65536 h) (T-or-left (same row row) false (same-refl row))
 among (EndRequested c) h = let row = answerRow (EndRequested c) in rw (lt-ltb c 65536 h) (T-or-left (same row row) false (same-refl row))

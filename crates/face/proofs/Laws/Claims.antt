@@ -25,10 +25,9 @@ use Rattle.reception.specs.Record.{phaseNumber, own}
 use Rattle.reception.specs.Answer.{Reply, messageOf, answerSaid}
 use Rattle.reception.specs.Steps.{Said, gives, refuses, Try, replyOf, stored, storeOf}
 use Rattle.reception.proofs.Laws.Steps.{on-sheet-below, check-gives, gives-same, reply-gives}
-use Rattle.face.specs.Rows.{messageRow, numbersSay, messageIn, recordsRow, recordsFrom, recordsIn}
+use Rattle.face.specs.Rows.{sheetRow, messageRow, numbersSay, messageIn, recordsRow, recordsFrom, recordsIn}
 use Rattle.face.specs.Rows.{eventRow, eventIn, replyRow, answerRow, answersFor, answerIn, tryRow, tryIn}
 use Rattle.face.specs.Calls.{ofGiven, standing, sheetSays, Stored, leftSays, storeSays}
-use Rattle.face.specs.Promises.{sheetRow}
 use Rattle.face.specs.Claims.{SheetsStand, MessagesStand, RecordsStand, EventsStand, Narrow, AnswersStand, AttemptsStand, StoresInPlace}
 use Rattle.face.proofs.Laws.Records.{record-in, record-row, length-row, records-counted, records-right, records-eight, row-set}
 use Rattle.face.proofs.Laws.Events.{event-known, event-row}

@@ -33,7 +33,7 @@ use Rattle.face.specs.Inner.{indicatorNumber, resultNumber, causeNumber,
 -- ---- by kind
 
 -- what holds of 0 to 7 and of any greater number holds of every number
-pub by-kind : (P : ℕ → Type 0) → P 0 → P 1 → P 2 → P 3 → P 4 → P 5 → P 6 → P 7 → ((n : ℕ) → P (suc (suc (suc (suc (suc (suc (suc (suc n)))))))))
+by-kind : (P : ℕ → Type 0) → P 0 → P 1 → P 2 → P 3 → P 4 → P 5 → P 6 → P 7 → ((n : ℕ) → P (suc (suc (suc (suc (suc (suc (suc (suc n)))))))))
     → (n : ℕ) → P n
 by-kind P z a b c d e f g more zero = z
 by-kind P z a b c d e f g more (suc zero) = a

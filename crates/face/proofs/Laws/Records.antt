@@ -33,12 +33,12 @@ option-cases none = inl refl
 option-cases (some x) = inr (x, refl)
 
 -- there are both where there is each
-pub is-both : {A B C : Type 0} (f : A → B → C) (a : Option A) (b : Option B) → isSome (both f a b) ≡ (isSome a && isSome b)
+is-both : {A B C : Type 0} (f : A → B → C) (a : Option A) (b : Option B) → isSome (both f a b) ≡ (isSome a && isSome b)
 is-both f none b = refl
 is-both f (some x) none = refl
 is-both f (some x) (some y) = refl
 
-pub both-some : {A B C : Type 0} (f : A → B → C) (a : Option A) (b : Option B) (z : C) → both f a b ≡ some z
+both-some : {A B C : Type 0} (f : A → B → C) (a : Option A) (b : Option B) (z : C) → both f a b ≡ some z
     → (x : A) × (y : B) × (a ≡ some x) × (b ≡ some y) × (f x y ≡ z)
 both-some f none b z e = absurd (Option·none-ne-some z e)
 both-some f (some x) none z e = absurd (Option·none-ne-some z e)
@@ -46,7 +46,7 @@ both-some f (some x) (some y) z e = (x, y, refl, refl, Option·some-injective _ 
 
 -- ---- phases
 
--- "a phase above 3" is none
+-- a number above 3 is no phase's
 phase-above : (n : ℕ) → 3 < n → phaseIn n ≡ none
 unfolding phaseIn
 phase-above n h = rw (ne-eqb 0 n (λ e. omega arith), ne-eqb 1 n (λ e. omega arith), ne-eqb 2 n (λ e. omega arith), ne-eqb 3 n (λ e. omega arith))

@@ -27,7 +27,8 @@ use Rattle.sheet.proofs.Laws.Decides.{longest-decides}
 use Rattle.sheet.proofs.Laws.Laid.{valid-good, valid-length}
 use Rattle.reception.specs.Steps.{gives}
 use Rattle.face.specs.Calls.{code, put, roomy, sheetSays}
-use Rattle.face.specs.Promises.{Rowed, sheetRow, usersAfter, mcv-sheet≡}
+use Rattle.face.specs.Rows.{sheetRow}
+use Rattle.face.specs.Promises.{Rowed, usersAfter, mcv-sheet≡}
 
 -- ---- how much is read
 

@@ -29,18 +29,18 @@ use Rattle.face.proofs.Laws.Messages.{numbered}
 -- ---- values that a kind takes
 
 -- nothing, or a number of 16 bits
-abbrev Narrow : Value → Type 0
-Narrow nothing = Unit {0}
-Narrow (numeral n) = n < 65536
-Narrow (spelt xs) = ⊥
-Narrow nowhere = ⊥
+abbrev NarrowValue : Value → Type 0
+NarrowValue nothing = Unit {0}
+NarrowValue (numeral n) = n < 65536
+NarrowValue (spelt xs) = ⊥
+NarrowValue nowhere = ⊥
 
 -- what a form of numbers holds is such a number
 abbrev Numeric : Form → Type 0
-Numeric form = (v : Value) → T (holds form v) → Narrow v
+Numeric form = (v : Value) → T (holds form v) → NarrowValue v
 
 -- so is one that a test holds of, where the test holds of no wider
-numeric : (test : ℕ → Bool) → ((n : ℕ) → T (test n) → n < 65536) → (v : Value) → T (isNumber test v) → Narrow v
+numeric : (test : ℕ → Bool) → ((n : ℕ) → T (test n) → n < 65536) → (v : Value) → T (isNumber test v) → NarrowValue v
 numeric test f nothing t = tt
 numeric test f (numeral n) t = f n t
 numeric test f (spelt xs) t = t
@@ -63,7 +63,7 @@ unfolding holds
 numeric-type = numeric (within 1) (λ n t. omega (arith, ltb→lt n 256 t))
 
 -- so what a row with such a form takes is one or nothing
-takes-narrow : (grant : Bool) (r : Row) → Numeric (r .form) → (v : Value) → T (takes grant r v) → Narrow v
+takes-narrow : (grant : Bool) (r : Row) → Numeric (r .form) → (v : Value) → T (takes grant r v) → NarrowValue v
 unfolding takes isNothing
 takes-narrow grant r f nothing t = tt
 takes-narrow grant r f (numeral n) t = f (numeral n) (T-and-right (mayHave grant (r .need)) _ t)
@@ -95,7 +95,7 @@ module _ (names : List ℕ) (grant : Bool) where
       (n, rest, rw (ne-eqb n noNumber (λ e. omega arith)), T-and-right (takes grant r (numeral n)) _ t)
   taken-number r f rows (named at len ∷ rest) t =
       let narrow = takes-narrow grant r f (valueIn names (named at len)) (T-and-left (takes grant r (valueIn names (named at len))) _ t) in
-      absurd (pick-cases (λ v. Narrow v → ⊥) (leb (at + len) (length names)) (spelt (take len (drop at names))) nowhere (λ b h. h) (λ b h. h)
+      absurd (pick-cases (λ v. NarrowValue v → ⊥) (leb (at + len) (length names)) (spelt (take len (drop at names))) nowhere (λ b h. h) (λ b h. h)
       narrow)
 
   -- no more of them than rows

@@ -145,7 +145,7 @@ module _ (sheet attempt records : List ℕ) where
 -- ---- a store that took
 
 -- what is kept of it
-abbrev pub keptOf : List Record → Attempt → Answer → Kept
+abbrev keptOf : List Record → Attempt → Answer → Kept
 keptOf rs a g = record { records = recordsRow (set rs (a .stream) (a .wanted)); answer = answerRow g }
 
 -- its stream is one of eight, and the record wanted is held
