@@ -14,3 +14,4 @@ pub mod Values
 pub mod Slots
 pub mod Places
 pub mod Judged
+pub mod Reader

@@ -4,6 +4,7 @@ pub mod Kind
 pub mod Judge
 pub mod Reading
 pub mod Message
+pub mod Reader
 pub mod Inner
 pub mod Apart
 pub mod Promises

@@ -4,6 +4,7 @@ pub mod field;
 mod header;
 mod judge;
 mod kind;
+pub mod reader;
 mod values;
 mod walk;
 
