@@ -14,4 +14,6 @@ pub mod Values
 pub mod Slots
 pub mod Places
 pub mod Judged
+pub mod Called
+pub mod Held
 pub mod Reader
