@@ -1,4 +1,5 @@
 pub mod Sized
+pub mod Checks
 pub mod Walk
 pub mod Fields
 pub mod Step

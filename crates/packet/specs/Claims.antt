@@ -8,17 +8,24 @@ use mathlib.Core.List.{List, [], _∷_, _++_}
 use mathlib.Core.Option.{Option, none, some}
 use lib.ListN.{length, take, drop}
 use lib.Dec.{T, leb, eqb}
-use Rattle.octets.specs.Choice.{every, keep, some-of}
+use denote.Ref.{RefT, now}
+use Rattle.octets.specs.Choice.{pick, every, keep, some-of}
 use Rattle.sheet.specs.declared.Sheet.{Sheet}
 use Rattle.sheet.specs.Judge.{userId}
 use Rattle.packet.specs.declared.field.Field.{Field}
+use Rattle.packet.specs.declared.field.Step.{Step}
+use Rattle.packet.specs.declared.field.Step.the-variants.{Field as FieldStep, End as EndStep, Refused as RefusedStep}
+use Rattle.packet.specs.declared.reader.FieldReader.{FieldReader}
+use Rattle.packet.specs.declared.reader.Made.{Made}
+use Rattle.packet.specs.declared.reader.Handed.{Handed}
 use Rattle.packet.specs.declared.Numbers.{Numbers}
 use Rattle.packet.specs.Header.{firstField, sizeRight, headRight, ackAsked, ssrcIn}
 use Rattle.packet.specs.Walk.{fieldsOf, stopFrom, whole}
 use Rattle.packet.specs.Layout.{Content, laid, laidAll, idRight, idsRight, contentsOf}
 use Rattle.packet.specs.Kind.{Row, Kind, kindOf, mayLack, mayHave, grants}
 use Rattle.packet.specs.Judge.{Held, absent, given, named, fieldsWith, fits, heldIn}
-use Rattle.packet.specs.Reading.{reads, readBy, readOf}
+use Rattle.packet.specs.Reading.{reads, refused, readBy, readOf}
+use Rattle.packet.specs.Promises.{reader-at≡, next-field≡}
 
 -- ---- the walk
 
@@ -106,3 +113,40 @@ AcceptsExactly =
     → (readBy n p ≡ reads (k .kind) (ssrcIn p) (ackAsked p) values)
     ↔ ((chosen : List (Option Field)) × AllowsAll p (grants isOne (k .rows) values) (k .rows) chosen values
     × Arranged (useful (k .rows) (fieldsOf p)) (present chosen))
+
+-- ---- the field reader
+
+-- a reader hands out these fields, a step each, and is then another
+abbrev pub HandsOut : FieldReader → List Field → FieldReader → Type 0
+HandsOut r [] s = s ≡ r
+HandsOut r (f ∷ fs) s = (h : Handed) × next-field≡ r h × (h .said ≡ FieldStep f) × HandsOut (h .reader) fs s
+
+-- its step says this, and it stays
+abbrev pub Stays : FieldReader → Step → Type 0
+Stays r said = next-field≡ r (record { reader = r; said = said })
+
+abbrev pub refused4 : Step
+refused4 = RefusedStep (record { number = 4; at = 0 })
+
+-- A reader is made exactly past checks 1 and 2; the packet reader, under whatever numbers, refuses every other packet alike, ..
+abbrev pub MadeExactly : Type 0
+MadeExactly =
+    (packet : RefT (List ℕ)) (at : ℕ) (m : Made) → reader-at≡ packet at m
+    → ((m .refusal .number ≡ 0) ↔ Headed (now packet))
+    × ((n : Numbers) → (m .refusal .number ≡ 0 → ⊥) → readBy n (now packet) ≡ refused (m .refusal .number) (m .refusal .at))
+
+-- .. and what stands beside a refusal hands out nothing.
+abbrev pub NothingBeside : Type 0
+NothingBeside =
+    (packet : RefT (List ℕ)) (at : ℕ) (m : Made) → reader-at≡ packet at m → (m .refusal .number ≡ 0 → ⊥) → Stays (m .reader) refused4
+
+-- Stepping from 12 hands out the fields of the walk, in order, each once; then it says the end exactly if the walk finds no fault, and
+-- else refuses with 4, and stays where the walk stopped.
+abbrev pub StepsAsTheWalk : Type 0
+StepsAsTheWalk =
+    (packet : RefT (List ℕ)) (m : Made) (fs : List Field) (s : FieldReader) (said : Step)
+    → Headed (now packet) → reader-at≡ packet firstField m
+    → (HandsOut (m .reader) fs s × Stays s said)
+    ↔ ((fs ≡ fieldsOf (now packet))
+    × (s ≡ record { packet = packet; at = stopFrom (now packet) firstField })
+    × (said ≡ pick (whole (now packet)) EndStep refused4))

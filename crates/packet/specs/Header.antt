@@ -5,6 +5,7 @@ use mathlib.Core.Bool.{Bool, _&&_}
 use mathlib.Core.List.{List}
 use lib.ListN.{length, getD, take, drop}
 use lib.Dec.{leb, eqb}
+use Rattle.octets.specs.Choice.{pick}
 use Rattle.octets.specs.Big.{bigAt}
 
 -- the fields follow the header's twelve octets
@@ -25,6 +26,10 @@ versionRight p = eqb (getD p 0 0 / 64) 2 && eqb (getD p 0 0 / 32 % 2) 0
 -- "Second: 204. Then a 16-bit length, words minus one, equal to the lent slice"
 unfoldable pub headRight : List ℕ → Bool
 headRight p = versionRight p && (eqb (getD p 1 0) 204 && eqb ((bigAt 2 p 2 + 1) * word) (length p))
+
+-- refusals 1 and 2, "Checked in that order": the first that is given, or 0
+unfoldable pub checkFailed : List ℕ → ℕ
+checkFailed p = pick (sizeRight p) (pick (headRight p) 0 2) 1
 
 -- "The first bit of the subtype asks for an Ack; the other four are the message's number from the sheet"
 unfoldable pub ackAsked : List ℕ → Bool

@@ -13,7 +13,7 @@ use Rattle.packet.specs.declared.reader.FieldReader.{FieldReader}
 use Rattle.packet.specs.declared.reader.Made.{Made}
 use Rattle.packet.specs.declared.reader.Handed.{Handed}
 use Rattle.packet.specs.Walk.{stepOf}
-use Rattle.packet.specs.Reader.{madeOf, readerAfter, handedBy, fieldIn}
+use Rattle.packet.specs.Reader.{madeOf, readerAfter, stepBy, fieldIn}
 use Rattle.packet.specs.Kind.{numbersOf}
 use Rattle.packet.specs.Reading.{readBy, readOf}
 use Rattle.packet.specs.Message.{readSaid, stepSaid}
@@ -56,7 +56,7 @@ reader-at-once packet at x y e f = one-value x y e f
 
 -- the reader after a step, with its packet, and the field, the end, or 4
 abbrev pub next-field≡ : FieldReader → Handed → Type 0
-next-field≡ reader r = (r .reader ≡ readerAfter reader) × (stepSaid (r .said) ≡ handedBy reader)
+next-field≡ reader r = (r .reader ≡ readerAfter reader) × (stepSaid (r .said) ≡ stepBy reader)
 
 pub next-field-once : (reader : FieldReader) (x y : Handed) → next-field≡ reader x → next-field≡ reader y → x ≡ y
 next-field-once reader x y e f =

@@ -4,13 +4,13 @@ use super::codes::FIRST_FIELD;
 ghost use mathlib.Core.Path.{_≡_};
 ghost use Prim.Native.Nat.{_≤_};
 ghost use lib.ListN.{length};
-ghost use Rattle.packet.specs.Header.{sizeRight, headRight};
+ghost use Rattle.packet.specs.Header.{sizeRight, headRight, checkFailed};
 
 // The most octets of a packet.
 const MOST: usize = 256;
 
 // "12 to 256 octets, a multiple of 4".
-pub fn is_size_right(packet: &[u8]) -> bool
+fn is_size_right(packet: &[u8]) -> bool
     ensures { λ r. ⌜ r ≡ sizeRight (now (packet .entry)) ⌝ }
 {
     if packet.len() < FIRST_FIELD {
@@ -23,7 +23,7 @@ pub fn is_size_right(packet: &[u8]) -> bool
 }
 
 // Version 2, padding bit 0, type 204, and the length that of the packet, in words minus one.
-pub fn is_head_right(packet: &[u8]) -> bool
+fn is_head_right(packet: &[u8]) -> bool
     requires { ⌜ 12 ≤ length (now packet) ⌝ }
     ensures { λ r. ⌜ r ≡ headRight (now (packet .entry)) ⌝ }
 {
@@ -34,4 +34,14 @@ pub fn is_head_right(packet: &[u8]) -> bool
         return false;
     }
     ((octets::u16_at(packet, 2) as usize) + 1) * 4 == packet.len()
+}
+
+// The check that a packet fails first, 1 or 2; or 0.
+pub fn check_failed(packet: &[u8]) -> u32
+    ensures { λ r. ⌜ r ≡ checkFailed (now (packet .entry)) ⌝ }
+{
+    if !is_size_right(packet) {
+        return 1;
+    }
+    if is_head_right(packet) { 0 } else { 2 }
 }

@@ -180,11 +180,9 @@ fn read_kind(numbers: Numbers, packet: &[u8], kind: u32, head: Head) -> Reading
 pub fn read_by(numbers: Numbers, packet: &[u8]) -> Reading
     ensures { λ r. ⌜ read-by≡ numbers (now (packet .entry)) r ⌝ }
 {
-    if !header::is_size_right(packet) {
-        return refused(1);
-    }
-    if !header::is_head_right(packet) {
-        return refused(2);
+    let failed = header::check_failed(packet);
+    if failed != 0 {
+        return refused(failed);
     }
     let head = values::head_of(packet);
     let kind = kind::kind_of(numbers, packet);

@@ -1,13 +1,13 @@
 // A reader that remembers its packet and its place, and hands out one field at a time (document 01, "Packet").
 use super::field::Step;
 use super::field::field_at;
-use super::header::is_head_right;
-use super::header::is_size_right;
+use super::header::check_failed;
 use sheet::Refusal;
 ghost use mathlib.Core.Path.{_≡_};
 ghost use Rattle.packet.specs.Message.{stepSaid};
 ghost use Rattle.packet.specs.Walk.{stepOf};
-ghost use Rattle.packet.specs.Reader.{startOf, headFault, movedTo, unless};
+ghost use Rattle.packet.specs.Reader.{refusalOf, startOf, movedTo};
+ghost use Rattle.packet.specs.Inner.{unless};
 ghost use Rattle.packet.specs.Promises.{reader-at≡, next-field≡, field-in≡};
 
 // A packet that passed checks 1 and 2, and the place of the next field in it.
@@ -34,35 +34,20 @@ struct Start {
     refusal: Refusal,
 }
 
-// What stands at a place, and the place after a step.
-struct Stepped {
+// What a step said, and the place after it.
+struct Moved {
     at: usize,
     said: Step,
 }
 
-// No start.
-fn none(number: u32) -> Start
-    ensures { λ r. ⌜ r ≡ record { at = 0; refusal = record { number = number; at = 0 } } ⌝ }
-{
-    Start {
-        at: 0,
-        refusal: Refusal { number, at: 0 },
-    }
-}
-
 // Checks 1 and 2.
 fn start_at(packet: &[u8], at: usize) -> Start
-    ensures { λ r. ⌜ r ≡ record { at = startOf (now (packet .entry)) at; refusal = record { number = headFault (now (packet .entry)); at = 0 } } ⌝ }
+    ensures { λ r. ⌜ r ≡ record { at = startOf (now (packet .entry)) at; refusal = refusalOf (now (packet .entry)) } ⌝ }
 {
-    if !is_size_right(packet) {
-        return none(1);
-    }
-    if !is_head_right(packet) {
-        return none(2);
-    }
+    let number = check_failed(packet);
     Start {
-        at,
-        refusal: Refusal { number: 0, at: 0 },
+        at: if number == 0 { at } else { 0 },
+        refusal: Refusal { number, at: 0 },
     }
 }
 
@@ -78,11 +63,11 @@ fn past(said: Step, at: usize) -> usize
 }
 
 // A step from a place.
-fn step_from(packet: &[u8], at: usize) -> Stepped
+fn step_from(packet: &[u8], at: usize) -> Moved
     ensures { λ r. ⌜ (r .at ≡ movedTo (stepOf (now (packet .entry)) at) at) × (stepSaid (r .said) ≡ stepOf (now (packet .entry)) at) ⌝ }
 {
     let said = field_at(packet, at);
-    Stepped {
+    Moved {
         at: past(said, at),
         said,
     }

@@ -21,7 +21,7 @@ use denote.Signature.{namedLft}
 use denote.Slice.{sliceVal, ShrSlice, shr-slice-copy}
 use denote.Steps.{owned, nothing}
 use denote.Struct.Laws as LL
-use denote.Struct.Rest.{all-own, own-open, own-shut}
+use denote.Struct.Rest.{own-open, own-shut}
 use Rattle.packet.specs.declared.reader.FieldReader.{FieldReader}
 use Rattle.packet.proofs.reader.FieldReader as T
 use Rattle.packet.proofs.reader.FieldReader.Laws as T′

@@ -1,29 +1,163 @@
--- Laws of the reader that remembers its packet and its place. Assumes nothing.
-use mathlib.Core.Path.{_≡_, refl, sym, ap, _∙_}
+-- Laws of the reader that remembers its packet and its place, and the claims of specs/Claims.antt on it. Assumes nothing.
+use mathlib.Core.Path.{_≡_, refl, sym, ap, ap₂, _∙_}
+use mathlib.Core.Logic.{⊎-elim}
 use mathlib.Core.Bool.{Bool, true, false}
-use mathlib.Core.List.{List}
-use Prim.Native.Nat.{ℕ}
-use lib.Dec.{eqb}
+use mathlib.Core.List.{List, [], _∷_}
+use Prim.Native.Nat.{ℕ, _%_, _≤_}
+use native.Mathlib.Nat.{eq-or-lt-of-le}
+use native.Mathlib.Omega.{arith}
+use lib.ListN.{length}
+use lib.Dec.{T, eqb}
+use borrow.Author.Tests.{eq-eqb, ne-eqb}
 use denote.Ref.{RefT, now}
 use Rattle.octets.specs.Choice.{pick}
-use Rattle.octets.proofs.Choice.{pick-cases}
+use Rattle.octets.proofs.Choice.{decide}
+use Rattle.packet.specs.declared.field.Field.{Field}
+use Rattle.packet.specs.declared.field.Step.{Step}
+use Rattle.packet.specs.declared.field.Step.the-variants.{Field as FieldStep, End as EndStep}
+use Rattle.packet.specs.declared.reader.FieldReader.{FieldReader}
 use Rattle.packet.specs.declared.reader.Made.{Made}
 use Rattle.packet.specs.declared.reader.Handed.{Handed}
-use Rattle.packet.specs.Header.{sizeRight, headRight}
-use Rattle.packet.specs.Walk.{Stepped, refused, stepOf}
+use Rattle.packet.specs.Header.{firstField, checkFailed}
+use Rattle.packet.specs.Walk.{Stepped, field, refused, fieldRight, fieldAt, nextAt, fieldsFrom, fieldsOf, stopFrom, whole, stepOf}
 use Rattle.packet.specs.Message.{stepSaid}
-use Rattle.packet.specs.Reader.{headFault, startOf, unless, madeOf, handedBy, fieldIn}
+use Rattle.packet.specs.Apart.{step-apart}
+use Rattle.packet.specs.Reader.{startOf, movedTo, readerAfter, fieldIn}
+use Rattle.packet.specs.Inner.{unless}
 use Rattle.packet.specs.Promises.{reader-at≡, next-field≡}
+use Rattle.packet.specs.Claims.{Headed, HandsOut, Stays, refused4, MadeExactly, NothingBeside, StepsAsTheWalk}
+use Rattle.packet.proofs.Laws.Sized.{sized}
+use Rattle.packet.proofs.Laws.Checks.{checks-past, past-checks, readBy-failed}
+use Rattle.packet.proofs.Laws.Walk.{next-after, next-word, right-next, fieldsFrom-right, fieldsFrom-wrong, stopFrom-right, stopFrom-wrong, walk-ind}
+use Rattle.packet.proofs.Laws.Step.{step-misplaced, step-end, step-wrong, step-right}
 
 -- a reader that is made and steps once says what `fieldIn` says
 pub fieldIn-step : (packet : RefT (List ℕ)) (at : ℕ) (m : Made) (h : Handed) → reader-at≡ packet at m → next-field≡ (m .reader) h
     → unless (m .refusal) (stepSaid (h .said)) ≡ fieldIn (now packet) at
-unfolding fieldIn headFault startOf
-fieldIn-step packet at m h e f = rw (f .1, e) (checked (sizeRight (now packet)) (headRight (now packet)))
+unfolding fieldIn startOf
+fieldIn-step packet at m h e f = rw (f .1, e) (checked (eqb (checkFailed (now packet)) 0))
   where
-    checked : (size head : Bool)
-        → unless (record { number = pick size (pick head 0 2) 1; at = 0 }) (stepOf (now packet) (pick (eqb (pick size (pick head 0 2) 1) 0) at 0))
-        ≡ pick size (pick head (stepOf (now packet) at) (refused 2 0)) (refused 1 0)
-    checked true true = refl
-    checked true false = refl
-    checked false head = refl
+    checked : (b : Bool) → pick b (stepOf (now packet) (pick b at 0)) (refused (checkFailed (now packet)) 0) ≡ pick b (stepOf (now packet) at) (refused (checkFailed (now packet)) 0)
+    checked true = refl
+    checked false = refl
+
+-- ---- a step at a place that a walk from 12 comes to
+
+pub record OnWalk (p : List ℕ) (at : ℕ) : Type 0 where
+  pub least : firstField ≤ at
+  pub word : at % 4 ≡ 0
+  pub inside : at ≤ length p
+
+on-first : (p : List ℕ) → Headed p → OnWalk p firstField
+on-first p h = record { least = omega arith; word = refl; inside = sized p (h .0) .least }
+
+on-next : (p : List ℕ) (at : ℕ) → OnWalk p at → T (fieldRight p at) → OnWalk p (nextAt p at)
+on-next p at o t =
+    record {
+      least = omega (arith, o .least, next-after p at);
+      word = next-word p at (o .word);
+      inside = right-next p at t;
+    }
+
+-- a right field is handed out
+step-field : (p : List ℕ) (at : ℕ) → OnWalk p at → T (fieldRight p at) → stepOf p at ≡ field (fieldAt p at)
+unfolding fieldAt
+step-field p at o t = step-right p at (o .least) (o .word) t (nextAt p at) refl
+
+-- the end, or 4
+abbrev restOf : List ℕ → ℕ → Step
+restOf p at = pick (eqb at (length p)) EndStep refused4
+
+-- at any other place the end is told, or 4
+step-rest : (p : List ℕ) (at : ℕ) → OnWalk p at → fieldRight p at ≡ false → stepSaid (restOf p at) ≡ stepOf p at
+step-rest p at o w =
+    ⊎-elim
+    (λ e. rw (eq-eqb at (length p) e) (sym (step-end p at (o .least) (o .word) e)))
+    (λ l. rw (ne-eqb at (length p) (omega arith)) (sym (step-wrong p at l w)))
+    (eq-or-lt-of-le (o .inside))
+
+-- what is said there hands out no field
+rest-stays : (b : Bool) (at : ℕ) → movedTo (stepSaid (pick b EndStep refused4)) at ≡ at
+rest-stays true at = refl
+rest-stays false at = refl
+
+rest-none : (b : Bool) (f : Field) → stepSaid (pick b EndStep refused4) ≡ field f → ⊥
+rest-none true f e = let z : _≡_ {A = ℕ} 0 1 = cc in omega arith
+rest-none false f e = let z : _≡_ {A = ℕ} 0 1 = cc in omega arith
+
+-- ---- stepping
+
+module _ (packet : RefT (List ℕ)) where
+  abbrev p : List ℕ
+  p = now packet
+
+  abbrev on : ℕ → FieldReader
+  on at = record { packet = packet; at = at }
+
+  -- a reader stays where no right field is, ..
+  stays : (at : ℕ) → OnWalk p at → fieldRight p at ≡ false → Stays (on at) (restOf p at)
+  stays at o w =
+      let e = step-rest p at o w in
+      (ap on (sym (ap (λ (x : Stepped). movedTo x at) (sym e) ∙ rest-stays (eqb at (length p)) at)), e)
+
+  -- .. and nowhere else
+  stays-only : (at : ℕ) (said : Step) → OnWalk p at → Stays (on at) said → (fieldRight p at ≡ false) × (said ≡ restOf p at)
+  unfolding fieldAt
+  stays-only at said o st =
+      ⊎-elim
+      (λ t. absurd (omega (arith, next-after p at, ap (λ (r : FieldReader). r .at) (st .0) ∙ ap (λ (x : Stepped). movedTo x at) (step-field p at o t))))
+      (λ w. (w, step-apart said (restOf p at) (st .1 ∙ sym (step-rest p at o w))))
+      (decide (fieldRight p at))
+
+  -- a step over a right field
+  over : (at : ℕ) → OnWalk p at → T (fieldRight p at) → readerAfter (on at) ≡ on (nextAt p at)
+  unfolding fieldAt
+  over at o t = ap (λ (x : Stepped). on (movedTo x at)) (step-field p at o t)
+
+  -- from a place on the fields of the walk are handed out, up to where it stops
+  hands : (at : ℕ) → OnWalk p at → HandsOut (on at) (fieldsFrom p at) (on (stopFrom p at)) × Stays (on (stopFrom p at)) (restOf p (stopFrom p at))
+  hands =
+      walk-ind p (λ at. OnWalk p at → HandsOut (on at) (fieldsFrom p at) (on (stopFrom p at)) × Stays (on (stopFrom p at)) (restOf p (stopFrom p at)))
+      (λ at w o. rw (fieldsFrom-wrong p at w, stopFrom-wrong p at w) (refl, stays at o w))
+      (λ at t r o.
+      let rest = r (on-next p at o t) in
+      rw (fieldsFrom-right p at t, stopFrom-right p at t) ((record { reader = on (nextAt p at); said = FieldStep (fieldAt p at) }, (sym (over at o t), sym (step-field p at o t)), refl, rest .0), rest .1))
+
+  -- and nothing else
+  hands-only : (fs : List Field) (s : FieldReader) (said : Step) (at : ℕ) → OnWalk p at → HandsOut (on at) fs s → Stays s said
+      → (fs ≡ fieldsFrom p at) × (s ≡ on (stopFrom p at)) × (said ≡ restOf p (stopFrom p at))
+  hands-only [] s said at o e st =
+      let only = stays-only at said o (rw e at st) in
+      let stop = stopFrom-wrong p at (only .0) in
+      (sym (fieldsFrom-wrong p at (only .0)), e ∙ ap on (sym stop), rw stop (only .1))
+  hands-only (f ∷ fs) s said at o x st =
+      let met : field f ≡ stepOf p at = sym (ap stepSaid (x .2)) ∙ x .1 .1 in
+      ⊎-elim
+      (λ t.
+      let first : f ≡ fieldAt p at = cc (met, step-field p at o t) in
+      let rest = hands-only fs s said (nextAt p at) (on-next p at o t) (rw (x .1 .0, over at o t) at (x .3)) st in
+      rw (fieldsFrom-right p at t, stopFrom-right p at t) (ap₂ (λ (y : Field) (ys : List Field). y ∷ ys) first (rest .0), rest .1, rest .2))
+      (λ w. absurd (rest-none (eqb at (length p)) f (step-rest p at o w ∙ sym met)))
+      (decide (fieldRight p at))
+
+-- ---- the claims
+
+pub made-exactly : MadeExactly
+made-exactly packet at m e =
+    rw e ((checks-past (now packet), past-checks (now packet)), λ n h. readBy-failed n (now packet) h)
+
+pub nothing-beside : NothingBeside
+unfolding startOf
+nothing-beside packet at m e h =
+    let fails : eqb (checkFailed (now packet)) 0 ≡ false = ne-eqb (checkFailed (now packet)) 0 (rw e at h) in
+    let misplaced = step-misplaced (now packet) 0 (λ x. omega (arith, x .0)) in
+    rw (e, fails) (ap (λ (x : Stepped). on packet (movedTo x 0)) (sym misplaced), sym misplaced)
+
+pub steps-as-the-walk : StepsAsTheWalk
+unfolding startOf fieldsOf whole
+steps-as-the-walk packet m fs s said h e =
+    let o = on-first (now packet) h in
+    let reader : m .reader ≡ on packet firstField = rw (e, past-checks (now packet) h) in (
+      (λ x. hands-only packet fs s said firstField o (rw reader at (x .0)) (x .1)),
+      λ x. rw (x .0, x .1, x .2, reader) (hands packet firstField o),
+    )

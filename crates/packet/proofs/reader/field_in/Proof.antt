@@ -38,7 +38,7 @@ use Rattle.sheet.specs.declared.Refusal.{Refusal}
 use Rattle.sheet.proofs.Refusal as Rf
 use Rattle.sheet.proofs.Refusal.Laws as Rf′
 use Rattle.packet.specs.Message.{stepSaid}
-use Rattle.packet.specs.Reader.{unless}
+use Rattle.packet.specs.Inner.{unless}
 use Rattle.packet.specs.Promises.{reader-at≡, next-field≡, field-in≡}
 use Rattle.packet.specs.declared.field.Step.{Step}
 use Rattle.packet.specs.declared.reader.FieldReader.{FieldReader}

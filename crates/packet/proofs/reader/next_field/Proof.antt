@@ -30,7 +30,7 @@ use denote.Enum.Laws as EL
 use denote.Struct.Laws as LL
 use denote.Struct.Rest.{own-shut}
 use denote.Triple.Statement.{Contract, Triple}
-use denote.Triple.Entry.{Vals, alive, onEntry}
+use denote.Triple.Entry.{alive, onEntry}
 use denote.Triple.Spec.{Meets, tripleOf}
 use denote.Triple.Table.{entered, cited}
 use denote.Triple.Walked.{says, Stays, stay-none, walkOf, goes-none, ends-at, walked, walk-meets}
@@ -39,7 +39,7 @@ use Rattle.packet.specs.Walk.{stepOf}
 use Rattle.packet.specs.Message.{stepSaid}
 use Rattle.packet.specs.Reader.{movedTo}
 use Rattle.packet.specs.declared.reader.Handed.{Handed}
-use Rattle.packet.specs.declared.reader.Stepped.{Stepped}
+use Rattle.packet.specs.declared.reader.Moved.{Moved}
 use Rattle.packet.proofs.Laws.Called.{calls}
 use Rattle.packet.proofs.Laws.Held.{packetVal, Packet, readerAt, Reader, PassedReader, reader-is, packet-twice, packet-reader, passed-reader-packet, packet-passed-reader, hands-on}
 use Rattle.packet.proofs.field.Step as E
@@ -48,8 +48,8 @@ use Rattle.packet.proofs.reader.FieldReader as T
 use Rattle.packet.proofs.reader.FieldReader.Laws as T′
 use Rattle.packet.proofs.reader.Handed as O
 use Rattle.packet.proofs.reader.Handed.Laws as O′
-use Rattle.packet.proofs.reader.Stepped as S
-use Rattle.packet.proofs.reader.Stepped.Laws as S′
+use Rattle.packet.proofs.reader.Moved as S
+use Rattle.packet.proofs.reader.Moved.Laws as S′
 use Rattle.packet.proofs.reader.step_from as step
 use Rattle.packet.proofs.reader.step_from.Symbol as step-def
 use Rattle.packet.proofs.reader.step_from.Symbol.{name as #step-from}
@@ -91,13 +91,13 @@ module _ {M : Type 1} (𝓤 : URA M) (H : Heap 𝓤) (A : Atoms 𝓤) (W : Given
   abbrev to : StepFrom 𝓤 H A mem run .Ghost
   to = (((κ, tt), (q, tt), tt, (s, (n, tt)), (packetVal κ s ∷ [], (vint w64 n ∷ [], tt))), tt)
 
-  abbrev Found : Stepped → Type 0
+  abbrev Found : Moved → Type 0
   Found r = (r .at ≡ movedTo (stepOf (now s) n) n) × (stepSaid (r .said) ≡ stepOf (now s) n)
 
-  abbrev handed : Stepped → Handed
+  abbrev handed : Moved → Handed
   handed r = record { reader = readerAt κ s (r .at); said = r .said }
 
-  module _ (r : Stepped) (e : Found r) (is : Is S.the-row r (LL.vals S.the-type S′.the-laws r)) where
+  module _ (r : Moved) (e : Found r) (is : Is S.the-row r (LL.vals S.the-type S′.the-laws r)) where
     exits : ent 𝓤 (⋆ 𝓤 H A (raw Token ∷ ‵ (Packet κ s) ∷ [])) (Post (LL.val (O.the-type α) (O′.the-laws α) (handed r)))
     exits =
         qed W (raw Token ∷ ‵ (Packet κ s) ∷ []) ∵

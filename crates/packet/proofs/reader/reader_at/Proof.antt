@@ -35,7 +35,7 @@ use denote.Triple.Walked.{says, Stays, stay-none, stay-none-slice, walkOf, goes-
 use denote.Exit.{yes}
 use Rattle.sheet.proofs.Refusal as Rf
 use Rattle.sheet.proofs.Refusal.Laws as Rf′
-use Rattle.packet.specs.Reader.{startOf, headFault}
+use Rattle.packet.specs.Reader.{refusalOf, startOf}
 use Rattle.packet.specs.declared.reader.Made.{Made}
 use Rattle.packet.specs.declared.reader.Start.{Start}
 use Rattle.packet.proofs.Laws.Called.{calls}
@@ -84,7 +84,7 @@ module _ {M : Type 1} (𝓤 : URA M) (H : Heap 𝓤) (A : Atoms 𝓤) (W : Given
   to = (((κ, tt), (q, tt), tt, (s, (n, tt)), at), tt)
 
   abbrev Found : Start → Type 0
-  Found r = r ≡ record { at = startOf (now s) n; refusal = record { number = headFault (now s); at = 0 } }
+  Found r = r ≡ record { at = startOf (now s) n; refusal = refusalOf (now s) }
 
   abbrev made : Start → Made
   made r = record { reader = readerAt κ s (r .at); refusal = r .refusal }

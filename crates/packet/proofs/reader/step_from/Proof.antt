@@ -1,5 +1,5 @@
 -- `packet::reader::step_from` meets its contract: where it moves goes by what stands at the place. Assumes nothing.
-use mathlib.Core.Path.{_≡_, ap, _∙_}
+use mathlib.Core.Path.{ap, _∙_}
 use borrow.Author.Needs.{needs}
 use Rattle.packet.specs.Walk.{Stepped}
 use Rattle.packet.specs.Reader.{movedTo}

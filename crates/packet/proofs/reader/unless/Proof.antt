@@ -1,5 +1,4 @@
 -- `packet::reader::unless` meets its contract, by whether the number is 0. Assumes nothing.
-use mathlib.Core.Path.{_≡_}
 use borrow.Author.Tests.{eq-eqb, ne-eqb}
 use native.Mathlib.Omega.{arith}
 use Rattle.packet.proofs.reader.unless.Statement.{statement}
