@@ -33,7 +33,7 @@ fn form_of(asked: u8, body: &[u8]) -> Form
         7 => Form {
             start: counted(body),
             size: 8,
-            most: MOST / step::LENGTH,
+            most: MOST / (2 * step::LENGTH),
         },
         9 => Form {
             start: value::ROWS,

@@ -77,15 +77,15 @@ pub fn counted(body: &[u8]) -> usize
     2 + octets::u16_at(body, 0) as usize
 }
 
-// 7: what stands at each place of some octets. The octets stand behind their count, and the places, eight octets each, behind those.
+// 7: what stands at each place of some octets, and what a field reader made there says. The octets stand behind their count, and the
+// places, eight octets each, behind those.
 pub fn field(reply: Reply, body: &[u8], rest: &[u8]) -> Reply {
     let high = octets::u32_at(rest, 0) as usize;
     let low = octets::u32_at(rest, 4) as usize;
+    let place = high * 4294967296 + low;
     let octets = part(body, 2, counted(body));
-    step::put_step(
-        reply,
-        packet::field::field_at(octets, high * 4294967296 + low),
-    )
+    let stands = step::put_step(reply, packet::field::field_at(octets, place));
+    step::put_step(stands, packet::reader::field_in(octets, place))
 }
 
 // 8: what is written of a message under the numbers of a value, into a buffer that was filled. Behind the numbers stand the message,

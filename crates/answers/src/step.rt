@@ -1,4 +1,4 @@
-// What stands at a place of some octets, among those of an answer: five numbers of eight octets. Of a field they are 1, its place,
+// What a field step says, among the octets of an answer: five numbers of eight octets. Of a field they are 1, its place,
 // ID and length, and the next place; of the end 2 and zeros; of a refusal 3, its number, its place, and zeros.
 use super::reply::Reply;
 use packet::field::Step;
@@ -31,7 +31,7 @@ fn row(reply: Reply, a: usize, b: usize, c: usize, d: usize, e: usize) -> Reply 
     )
 }
 
-// Puts what stands at a place.
+// Puts what a step says.
 pub fn put_step(reply: Reply, step: Step) -> Reply {
     match step {
         Step::Field(field) => row(reply, 1, field.at, field.id as usize, field.len, field.next),

@@ -27,6 +27,7 @@ madeOf packet at =
 
 -- ---- a step
 
+-- the field at its place, the end, or 4
 abbrev pub stepBy : FieldReader → Stepped
 stepBy r = stepOf (now (r .packet)) (r .at)
 

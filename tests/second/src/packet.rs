@@ -232,6 +232,23 @@ fn is_head_right(packet: &[u8]) -> bool {
     packet[0] >> 5 == 0b100 && packet[1] == 204 && words * 4 == packet.len()
 }
 
+/// Checks 1 and 2.
+fn check_head(packet: &[u8]) -> Result<(), u32> {
+    if !is_size_right(packet) {
+        return Err(1);
+    }
+    if !is_head_right(packet) {
+        return Err(2);
+    }
+    Ok(())
+}
+
+/// What a field reader says that is made at a place of a packet and steps once.
+pub fn field_in(packet: &[u8], place: usize) -> Step<'_> {
+    check_head(packet)?;
+    field_at(packet, place)
+}
+
 /// What a good sheet says about packets: the number of each kind, and the ID of a Result.
 pub struct Numbers {
     kinds: [u8; MESSAGES.len()],
@@ -252,12 +269,7 @@ impl Numbers {
 
     /// The message of a packet, or the first that holds of 1, 2, 3, 4 and 5.
     pub fn read(&self, packet: &[u8]) -> Reading {
-        if !is_size_right(packet) {
-            return Err(1);
-        }
-        if !is_head_right(packet) {
-            return Err(2);
-        }
+        check_head(packet)?;
         let kind = self.kind_of(&packet[8..HEAD], packet[0] & 0x0F).ok_or(3u32)?;
         let fields = Fields::of(packet)?;
         let content = content(kind, &fields, self.result_id).ok_or(5u32)?;
@@ -369,5 +381,15 @@ mod tests {
         }
         assert_eq!((field_at(&request[..13], 12), field_at(&request[..19], 12)), (Err(4), Err(4)));
         assert_eq!((field_at(&request[..8], 8), field_at(&request[..12], 12)), (Err(4), Ok(None)));
+    }
+
+    #[test]
+    fn a_field_reader_is_made_past_checks_1_and_2() {
+        let request = octets(PACKETS[2]);
+        for place in [0, 12, 13, 20, 28, 32] {
+            assert_eq!(field_in(&request, place), field_at(&request, place), "{place}");
+            assert_eq!(field_in(&request[..13], place), Err(1), "{place}");
+            assert_eq!(field_in(&request[..12], place), Err(2), "{place}");
+        }
     }
 }

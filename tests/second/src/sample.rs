@@ -60,8 +60,10 @@ pub fn cases() -> Vec<Case> {
         Case::Packets(s.clone(), packets(bench::PACKETS)),
         Case::Packets(s.clone(), packets(REFUSED)),
         Case::Packets(Sheet::ZERO, packets(bench::PACKETS)),
-        Case::Fields(bench::octets(bench::PACKETS[2]), vec![12, 20, 28, 0, 13, 32]),
     ]);
+    let request = bench::octets(bench::PACKETS[2]);
+    let cut = |length: usize| Case::Fields(request[..length].to_vec(), vec![12]);
+    cases.extend([Case::Fields(request.clone(), vec![12, 20, 28, 0, 13, 32]), cut(13), cut(12)]);
     cases.extend(writings(&s));
     cases
 }

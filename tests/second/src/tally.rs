@@ -5,7 +5,7 @@ use crate::drafts::Octets;
 use crate::packet::{kinds, Message, Reading, Step, INDICATED};
 use crate::rooms::Rooms;
 use crate::sheet::{KEYS, SEATS};
-use crate::wire::{Answer, Case};
+use crate::wire::{Answer, Case, Steps};
 use crate::writer::{self, Writing};
 use std::collections::{BTreeMap, BTreeSet};
 
@@ -46,7 +46,7 @@ fn sorts(case: &Case, answer: &Answer) -> Vec<String> {
         Answer::Seat(None) => vec!["searches, nobody".to_string()],
         Answer::UserId(is) => vec![format!("names, {}", judged(*is))],
         Answer::Packets(readings) => readings.iter().map(sort_of_reading).collect(),
-        Answer::Fields(steps) => steps.iter().map(sort_of_step).collect(),
+        Answer::Fields(steps) => steps.iter().flat_map(sorts_of_steps).collect(),
         Answer::Write(writing, ..) => vec![sort_of_writing(case, writing)],
     }
 }
@@ -60,10 +60,14 @@ fn sort_of_reading(reading: &Reading) -> String {
 
 fn sort_of_step(step: &Step) -> String {
     match step {
-        Ok(Some(_)) => "fields".to_string(),
-        Ok(None) => "field ends".to_string(),
-        Err(_) => "field refused".to_string(),
+        Ok(Some(_)) => "a field".to_string(),
+        Ok(None) => "the end".to_string(),
+        Err(refusal) => format!("refused, {refusal:2}"),
     }
+}
+
+fn sorts_of_steps((stands, reader): &Steps) -> [String; 2] {
+    [format!("places, {}", sort_of_step(stands)), format!("field readers, {}", sort_of_step(reader))]
 }
 
 fn sort_of_writing(case: &Case, writing: &Writing) -> String {
@@ -105,7 +109,9 @@ fn wanted_of_sheets() -> Vec<String> {
 fn wanted_of_packets() -> Vec<String> {
     let mut wanted: Vec<String> = kinds().map(|kind| format!("packets read, kind {kind}")).collect();
     wanted.extend([1, 2, 3, 4, 5, 12].map(|refusal| format!("packets refused, {refusal:2}")));
-    wanted.extend(["fields", "field ends", "field refused"].map(String::from));
+    wanted.extend(["a field", "the end", "refused,  4"].map(|said| format!("places, {said}")));
+    let readers = ["a field", "the end", "refused,  1", "refused,  2", "refused,  4"];
+    wanted.extend(readers.map(|said| format!("field readers, {said}")));
     wanted
 }
 
@@ -191,10 +197,10 @@ impl asked::Tally for Tally {
         for (sort, count) in &self.counts {
             println!("{count:8} {sort}");
         }
-        let (texts, packets, fields) = (self.sum("texts"), self.sum("packets"), self.sum("field"));
+        let (texts, packets, places) = (self.sum("texts"), self.sum("packets"), self.sum("places"));
         let (messages, written) = (self.sum("messages"), self.sum("messages written"));
         let (read_under, written_under) = (self.read_under.len(), self.written_under.len());
-        println!("{texts} texts of sheets; {packets} packets under {read_under} sheets; {fields} field steps");
+        println!("{texts} texts of sheets; {packets} packets under {read_under} sheets; {places} places of fields");
         println!("{messages} messages to write under {written_under} sheets; {written} written and read back");
         is_enough(self.wanted())
     }

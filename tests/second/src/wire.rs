@@ -7,13 +7,16 @@ use std::ops::Range;
 
 /// As many packets, and as many places, as the answer to one case has room for.
 const PACKETS: usize = 21;
-const PLACES: usize = 25;
+const PLACES: usize = 12;
 
 /// Stands for a number that a message has not.
 const NONE: u32 = u32::MAX;
 
 /// How many octets of an answer say what was written.
 pub const WRITTEN: usize = 16;
+
+/// What a field step says at a place of some octets, and what a field reader says that is made there.
+pub type Steps<'a> = (Step<'a>, Step<'a>);
 
 /// What is asked of the proved functions. A message to write comes with the octets that its names lie in and with the
 /// length of the buffer.
@@ -38,7 +41,7 @@ pub enum Answer<'a> {
     Seat(Option<usize>),
     UserId(bool),
     Packets(Vec<Reading>),
-    Fields(Vec<Step<'a>>),
+    Fields(Vec<Steps<'a>>),
     Write(Writing, Vec<u8>, Option<Reading>),
 }
 
@@ -108,7 +111,8 @@ impl Case {
                 Answer::Packets(packets.iter().map(|packet| packet::read(sheet, packet)).collect())
             }
             Case::Fields(octets, places) => {
-                Answer::Fields(places.iter().map(|place| packet::field_at(octets, *place as usize)).collect())
+                let steps = |place| (packet::field_at(octets, place), packet::field_in(octets, place));
+                Answer::Fields(places.iter().map(|place| steps(*place as usize)).collect())
             }
             Case::Write(sheet, message, names, room) => {
                 let mut out = lent(*room);
@@ -137,7 +141,8 @@ impl Answer<'_> {
             Answer::UserId(is) => vec![*is as u8],
             Answer::Packets(readings) => octets_of(readings.iter().flat_map(reading_numbers)),
             Answer::Fields(steps) => {
-                steps.iter().flat_map(step_numbers).flat_map(|number| number.to_be_bytes()).collect()
+                let numbers = steps.iter().flat_map(|(stands, reader)| [step_numbers(stands), step_numbers(reader)]);
+                numbers.flatten().flat_map(u64::to_be_bytes).collect()
             }
             Answer::Write(writing, out, back) => {
                 let mut octets = writing.map_or(0, |octets| octets as u64).to_be_bytes().to_vec();
@@ -183,7 +188,7 @@ pub fn message_numbers(message: &Message) -> [u32; 12] {
     ]
 }
 
-/// A field's answer: 1, its place, ID and length, and the next place; 2 at the end; or 3 and the refusal.
+/// A step's answer: 1, the field's place, ID and length, and the next place; 2 at the end; or 3 and the refusal.
 fn step_numbers(step: &Step) -> [u64; 5] {
     match step {
         Ok(Some(field)) => [1, field.at as u64, u64::from(field.id), field.value.len() as u64, field.next as u64],
