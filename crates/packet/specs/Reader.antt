@@ -3,13 +3,11 @@
 -- step says is `stepOf` of Walk. Assumes nothing.
 use Prim.Native.Nat.{ℕ}
 use mathlib.Core.List.{List}
-use lib.Dec.{eqb}
 use denote.Ref.{RefT, now}
-use Rattle.octets.specs.Choice.{pick}
 use Rattle.sheet.specs.declared.Refusal.{Refusal}
 use Rattle.packet.specs.declared.reader.FieldReader.{FieldReader}
 use Rattle.packet.specs.declared.reader.Made.{Made}
-use Rattle.packet.specs.Header.{checkFailed}
+use Rattle.packet.specs.Header.{checked, checkFailed}
 use Rattle.packet.specs.Walk.{Stepped, field, end, refused, stepOf}
 
 -- ---- making one
@@ -19,7 +17,7 @@ refusalOf p = record { number = checkFailed p; at = 0 }
 
 -- A reader starts at the place asked for. Beside a refusal stands one at octet 0, which is below 12: it hands out nothing.
 unfoldable pub startOf : List ℕ → ℕ → ℕ
-startOf p at = pick (eqb (checkFailed p) 0) at 0
+startOf p at = checked (λ (number : ℕ). 0) p at
 
 abbrev pub madeOf : RefT (List ℕ) → ℕ → Made
 madeOf packet at =
@@ -44,4 +42,4 @@ readerAfter r = record { packet = r .packet; at = movedTo (stepBy r) (r .at) }
 -- ---- both: a reader is made at a place and steps once
 
 unfoldable pub fieldIn : List ℕ → ℕ → Stepped
-fieldIn p at = pick (eqb (checkFailed p) 0) (stepOf p at) (refused (checkFailed p) 0)
+fieldIn p at = checked (λ (number : ℕ). refused number 0) p (stepOf p at)

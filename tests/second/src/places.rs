@@ -31,7 +31,16 @@ fn all(octets: &[u8]) -> Vec<u64> {
     places
 }
 
-/// Octets that are fields for the most part, of any length and with any header.
+/// Makes the front of octets the header of a packet as long as they are, where they have room for it.
+fn put_head(random: &mut Random, octets: &mut Octets) {
+    let words = (octets.len() / 4).saturating_sub(1) as u16;
+    let front = [vec![0x80 | random.octet() & 0x1F, 204], words.to_be_bytes().to_vec()].concat();
+    if let Some(head) = octets.get_mut(..front.len()) {
+        head.copy_from_slice(&front);
+    }
+}
+
+/// Octets that are fields for the most part, of any length, behind a header of theirs or any other.
 fn fields(random: &mut Random, length: usize) -> Octets {
     let mut octets: Octets = (0..HEAD).map(|_| random.octet()).collect();
     while octets.len() < length {
@@ -41,6 +50,9 @@ fn fields(random: &mut Random, length: usize) -> Octets {
         octets.resize(octets.len().next_multiple_of(4), 0);
     }
     octets.truncate(length);
+    if random.below(2) == 0 {
+        put_head(random, &mut octets);
+    }
     octets
 }
 

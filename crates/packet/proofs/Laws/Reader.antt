@@ -11,14 +11,14 @@ use lib.Dec.{T, eqb}
 use borrow.Author.Tests.{eq-eqb, ne-eqb}
 use denote.Ref.{RefT, now}
 use Rattle.octets.specs.Choice.{pick}
-use Rattle.octets.proofs.Choice.{decide}
+use Rattle.octets.proofs.Choice.{T-true, decide}
 use Rattle.packet.specs.declared.field.Field.{Field}
 use Rattle.packet.specs.declared.field.Step.{Step}
 use Rattle.packet.specs.declared.field.Step.the-variants.{Field as FieldStep, End as EndStep}
 use Rattle.packet.specs.declared.reader.FieldReader.{FieldReader}
 use Rattle.packet.specs.declared.reader.Made.{Made}
 use Rattle.packet.specs.declared.reader.Handed.{Handed}
-use Rattle.packet.specs.Header.{firstField, checkFailed}
+use Rattle.packet.specs.Header.{firstField, sizeRight, headRight, checkFailed}
 use Rattle.packet.specs.Walk.{Stepped, field, refused, fieldRight, fieldAt, nextAt, fieldsFrom, fieldsOf, stopFrom, whole, stepOf}
 use Rattle.packet.specs.Message.{stepSaid}
 use Rattle.packet.specs.Apart.{step-apart}
@@ -27,7 +27,7 @@ use Rattle.packet.specs.Inner.{unless}
 use Rattle.packet.specs.Promises.{reader-at≡, next-field≡}
 use Rattle.packet.specs.Claims.{Headed, HandsOut, Stays, refused4, MadeExactly, NothingBeside, StepsAsTheWalk}
 use Rattle.packet.proofs.Laws.Sized.{sized}
-use Rattle.packet.proofs.Laws.Checks.{checks-past, past-checks, readBy-failed}
+use Rattle.packet.proofs.Laws.Checks.{checked-by, checks-past, past-checks, readBy-failed}
 use Rattle.packet.proofs.Laws.Walk.{next-after, next-word, right-next, fieldsFrom-right, fieldsFrom-wrong, stopFrom-right, stopFrom-wrong, walk-ind}
 use Rattle.packet.proofs.Laws.Step.{step-misplaced, step-end, step-wrong, step-right}
 
@@ -35,11 +35,13 @@ use Rattle.packet.proofs.Laws.Step.{step-misplaced, step-end, step-wron
 pub fieldIn-step : (packet : RefT (List ℕ)) (at : ℕ) (m : Made) (h : Handed) → reader-at≡ packet at m → next-field≡ (m .reader) h
     → unless (m .refusal) (stepSaid (h .said)) ≡ fieldIn (now packet) at
 unfolding fieldIn startOf
-fieldIn-step packet at m h e f = rw (f .1, e) (checked (eqb (checkFailed (now packet)) 0))
+fieldIn-step packet at m h e f =
+    let p = now packet in
+    rw (f .1, e, checked-by (λ (number : ℕ). 0) p at, checked-by (λ (number : ℕ). refused number 0) p (stepOf p at)) (step (eqb (checkFailed p) 0))
   where
-    checked : (b : Bool) → pick b (stepOf (now packet) (pick b at 0)) (refused (checkFailed (now packet)) 0) ≡ pick b (stepOf (now packet) at) (refused (checkFailed (now packet)) 0)
-    checked true = refl
-    checked false = refl
+    step : (b : Bool) → pick b (stepOf (now packet) (pick b at 0)) (refused (checkFailed (now packet)) 0) ≡ pick b (stepOf (now packet) at) (refused (checkFailed (now packet)) 0)
+    step true = refl
+    step false = refl
 
 -- ---- a step at a place that a walk from 12 comes to
 
@@ -149,15 +151,15 @@ made-exactly packet at m e =
 pub nothing-beside : NothingBeside
 unfolding startOf
 nothing-beside packet at m e h =
-    let fails : eqb (checkFailed (now packet)) 0 ≡ false = ne-eqb (checkFailed (now packet)) 0 (rw e at h) in
-    let misplaced = step-misplaced (now packet) 0 (λ x. omega (arith, x .0)) in
-    rw (e, fails) (ap (λ (x : Stepped). on packet (movedTo x 0)) (sym misplaced), sym misplaced)
+    let p = now packet in
+    let misplaced = step-misplaced p 0 (λ x. omega (arith, x .0)) in
+    rw (e, checked-by (λ (number : ℕ). 0) p at, ne-eqb (checkFailed p) 0 (rw e at h)) (ap (λ (x : Stepped). on packet (movedTo x 0)) (sym misplaced), sym misplaced)
 
 pub steps-as-the-walk : StepsAsTheWalk
 unfolding startOf fieldsOf whole
 steps-as-the-walk packet m fs s said h e =
     let o = on-first (now packet) h in
-    let reader : m .reader ≡ on packet firstField = rw (e, past-checks (now packet) h) in (
+    let reader : m .reader ≡ on packet firstField = rw (e, T-true (sizeRight (now packet)) (h .0), T-true (headRight (now packet)) (h .1)) in (
       (λ x. hands-only packet fs s said firstField o (rw reader at (x .0)) (x .1)),
       λ x. rw (x .0, x .1, x .2, reader) (hands packet firstField o),
     )

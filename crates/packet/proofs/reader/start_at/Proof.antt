@@ -1,21 +1,35 @@
 -- `packet::reader::start_at` meets its contract, by whether a check failed. Assumes nothing.
-use mathlib.Core.Path.{sym}
+use mathlib.Core.Path.{_≡_, sym, _∙_}
+use Prim.Native.Nat.{ℕ}
 use borrow.Author.Needs.{needs}
 use borrow.Author.Tests.{eq-eqb, ne-eqb}
+use lib.Dec.{eqb}
+use denote.Ref.{now}
+use Rattle.octets.specs.Choice.{pick}
 use Rattle.packet.specs.Reader.{startOf}
+use Rattle.packet.proofs.Laws.Checks.{checked-by}
 use Rattle.packet.proofs.reader.start_at.Statement.{statement}
 use Rattle.packet.proofs.reader.start_at.Tie as tie
 
 check-failed-requires : tie.Need-check-failed-requires
 check-failed-requires c κs = search needs
 
-returns : tie.Need-returns
+-- what the number decides
+start-is : (c : tie.After-check-failed)
+    → let a = c .before .before .args in
+    startOf (now (a .packet)) (a .at) ≡ pick (eqb (c .check-failed .result) 0) (a .at) 0
 unfolding startOf
-returns c = rw (sym (c .before .check-failed .ensures), eq-eqb (c .before .check-failed .result) 0 (c .if1 .taken))
+start-is c =
+    let a = c .before .before .args in
+    checked-by (λ (number : ℕ). 0) (now (a .packet)) (a .at) ∙ rw (sym (c .check-failed .ensures))
+
+returns : tie.Need-returns
+returns c =
+    rw (start-is (c .before), sym (c .before .check-failed .ensures), eq-eqb (c .before .check-failed .result) 0 (c .if1 .taken))
 
 returns-2 : tie.Need-returns-2
-unfolding startOf
-returns-2 c = rw (sym (c .before .check-failed .ensures), ne-eqb (c .before .check-failed .result) 0 (c .if1 .left))
+returns-2 c =
+    rw (start-is (c .before), sym (c .before .check-failed .ensures), ne-eqb (c .before .check-failed .result) 0 (c .if1 .left))
 
 pub start-at-spec : {M : Type 1} → statement M
 start-at-spec = tie.close (tie.spec check-failed-requires returns returns-2)
