@@ -16,5 +16,5 @@ pub mod Slots
 pub mod Places
 pub mod Judged
 pub mod Called
-pub mod Held
+pub mod Owned
 pub mod Reader

@@ -1,5 +1,5 @@
--- What is claimed of reading beyond the functions, said without the walk or the reader's judging. Each has its proof under
--- proofs/. Assumes nothing.
+-- What is claimed of reading beyond the functions, said without the walk or the reader's judging; and of the field reader, by the walk.
+-- Each has its proof under proofs/. Assumes nothing.
 use mathlib.Core.Path.{_≡_}
 use mathlib.Core.Logic.{_↔_}
 use Prim.Native.Nat.{ℕ, _+_, _-_, _<_}
@@ -24,8 +24,8 @@ use Rattle.packet.specs.Walk.{fieldsOf, stopFrom, whole}
 use Rattle.packet.specs.Layout.{Content, laid, laidAll, idRight, idsRight, contentsOf}
 use Rattle.packet.specs.Kind.{Row, Kind, kindOf, mayLack, mayHave, grants}
 use Rattle.packet.specs.Judge.{Held, absent, given, named, fieldsWith, fits, heldIn}
-use Rattle.packet.specs.Reading.{reads, refused, readBy, readOf}
-use Rattle.packet.specs.Promises.{reader-at≡, next-field≡}
+use Rattle.packet.specs.Reading.{reads, readBy, readOf}
+use Rattle.packet.specs.Promises.{reader-at≡, next-field≡, field-in≡}
 
 -- ---- the walk
 
@@ -116,10 +116,13 @@ AcceptsExactly =
 
 -- ---- the field reader
 
--- a reader hands out these fields, a step each, and is then another
-abbrev pub HandsOut : FieldReader → List Field → FieldReader → Type 0
-HandsOut r [] s = s ≡ r
-HandsOut r (f ∷ fs) s = (h : Handed) × next-field≡ r h × (h .said ≡ FieldStep f) × HandsOut (h .reader) fs s
+-- "Each is given exactly then": a reader is made exactly past checks 1 and 2, ..
+abbrev pub MadeExactly : Type 0
+MadeExactly =
+    (packet : RefT (List ℕ)) (at : ℕ) (m : Made) → reader-at≡ packet at m
+    → ((m .refusal .number ≡ 0) ↔ Headed (now packet))
+    × ((m .refusal .number ≡ 1) ↔ (sizeRight (now packet) ≡ false))
+    × ((m .refusal .number ≡ 2) ↔ (T (sizeRight (now packet)) × (headRight (now packet) ≡ false)))
 
 -- its step says this, and it stays
 abbrev pub Stays : FieldReader → Step → Type 0
@@ -128,20 +131,18 @@ Stays r said = next-field≡ r (record { reader = r; said = said })
 abbrev pub refused4 : Step
 refused4 = RefusedStep (record { number = 4; at = 0 })
 
--- A reader is made exactly past checks 1 and 2; the packet reader, under whatever numbers, refuses every other packet alike, ..
-abbrev pub MadeExactly : Type 0
-MadeExactly =
-    (packet : RefT (List ℕ)) (at : ℕ) (m : Made) → reader-at≡ packet at m
-    → ((m .refusal .number ≡ 0) ↔ Headed (now packet))
-    × ((n : Numbers) → (m .refusal .number ≡ 0 → ⊥) → readBy n (now packet) ≡ refused (m .refusal .number) (m .refusal .at))
-
 -- .. and what stands beside a refusal hands out nothing.
 abbrev pub NothingBeside : Type 0
 NothingBeside =
     (packet : RefT (List ℕ)) (at : ℕ) (m : Made) → reader-at≡ packet at m → (m .refusal .number ≡ 0 → ⊥) → Stays (m .reader) refused4
 
--- Stepping from 12 hands out the fields of the walk, in order, each once; then it says the end exactly if the walk finds no fault, and
--- else refuses with 4, and stays where the walk stopped.
+-- a reader hands out these fields, a step each, and is then this reader
+abbrev pub HandsOut : FieldReader → List Field → FieldReader → Type 0
+HandsOut r [] s = s ≡ r
+HandsOut r (f ∷ fs) s = (h : Handed) × next-field≡ r h × (h .said ≡ FieldStep f) × HandsOut (h .reader) fs s
+
+-- Past checks 1 and 2, stepping from 12 hands out the fields of the walk, in order, each once; then it says the end exactly if the walk
+-- finds no fault, else refuses with 4, and stays where the walk stopped.
 abbrev pub StepsAsTheWalk : Type 0
 StepsAsTheWalk =
     (packet : RefT (List ℕ)) (m : Made) (fs : List Field) (s : FieldReader) (said : Step)
@@ -150,3 +151,10 @@ StepsAsTheWalk =
     ↔ ((fs ≡ fieldsOf (now packet))
     × (s ≡ record { packet = packet; at = stopFrom (now packet) firstField })
     × (said ≡ pick (whole (now packet)) EndStep refused4))
+
+-- What is said of a packet and a place is what making a reader there and a step of it say.
+abbrev pub SaidByAReader : Type 0
+SaidByAReader =
+    (packet : RefT (List ℕ)) (at : ℕ) (m : Made) (h : Handed) (r : Step)
+    → reader-at≡ packet at m → next-field≡ (m .reader) h → field-in≡ (now packet) at r
+    → (m .refusal .number ≡ 0 → r ≡ h .said) × ((m .refusal .number ≡ 0 → ⊥) → r ≡ RefusedStep (m .refusal))

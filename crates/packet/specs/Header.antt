@@ -27,13 +27,13 @@ versionRight p = eqb (getD p 0 0 / 64) 2 && eqb (getD p 0 0 / 32 % 2) 0
 unfoldable pub headRight : List ℕ → Bool
 headRight p = versionRight p && (eqb (getD p 1 0) 204 && eqb ((bigAt 2 p 2 + 1) * word) (length p))
 
--- checks 1 and 2, "Checked in that order": what follows where both pass, or the refusal of the first that fails
-abbrev pub checked {ℓ} : {A : Type ℓ} → (ℕ → A) → List ℕ → A → A
-checked refuse p next = pick (sizeRight p) (pick (headRight p) next (refuse 2)) (refuse 1)
+-- checks 1 and 2, "Checked in that order": what follows past both, or the refusal of the first that fails
+abbrev pub pastChecks {ℓ} : {A : Type ℓ} → (ℕ → A) → List ℕ → A → A
+pastChecks refuse p next = pick (sizeRight p) (pick (headRight p) next (refuse 2)) (refuse 1)
 
 -- the number of the one that fails, or 0
-unfoldable pub checkFailed : List ℕ → ℕ
-checkFailed p = checked (λ (number : ℕ). number) p 0
+unfoldable pub failedCheck : List ℕ → ℕ
+failedCheck p = pastChecks (λ (number : ℕ). number) p 0
 
 -- "The first bit of the subtype asks for an Ack; the other four are the message's number from the sheet"
 unfoldable pub ackAsked : List ℕ → Bool

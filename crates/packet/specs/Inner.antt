@@ -148,5 +148,5 @@ valuesFrom kind p places =
 -- ---- the field reader
 
 -- a refusal, where there is one; else what a step says
-abbrev pub unless : Refusal → Stepped → Stepped
-unless r said = pick (eqb (r .number) 0) said (refused (r .number) (r .at))
+abbrev pub refusedOr : Refusal → Stepped → Stepped
+refusedOr r said = pick (eqb (r .number) 0) said (refused (r .number) (r .at))

@@ -7,17 +7,18 @@ use denote.Ref.{RefT, now}
 use Rattle.sheet.specs.declared.Refusal.{Refusal}
 use Rattle.packet.specs.declared.reader.FieldReader.{FieldReader}
 use Rattle.packet.specs.declared.reader.Made.{Made}
-use Rattle.packet.specs.Header.{checked, checkFailed}
+use Rattle.packet.specs.Header.{pastChecks, failedCheck}
 use Rattle.packet.specs.Walk.{Stepped, field, end, refused, stepOf}
 
 -- ---- making one
 
+-- 1 or 2, or 0 past both; it "returns its number only"
 abbrev pub refusalOf : List ℕ → Refusal
-refusalOf p = record { number = checkFailed p; at = 0 }
+refusalOf p = record { number = failedCheck p; at = 0 }
 
 -- A reader starts at the place asked for. Beside a refusal stands one at octet 0, which is below 12: it hands out nothing.
 unfoldable pub startOf : List ℕ → ℕ → ℕ
-startOf p at = checked (λ (number : ℕ). 0) p at
+startOf p at = pastChecks (λ (number : ℕ). 0) p at
 
 abbrev pub madeOf : RefT (List ℕ) → ℕ → Made
 madeOf packet at =
@@ -42,4 +43,4 @@ readerAfter r = record { packet = r .packet; at = movedTo (stepBy r) (r .at) }
 -- ---- both: a reader is made at a place and steps once
 
 unfoldable pub fieldIn : List ℕ → ℕ → Stepped
-fieldIn p at = checked (λ (number : ℕ). refused number 0) p (stepOf p at)
+fieldIn p at = pastChecks (λ (number : ℕ). refused number 0) p (stepOf p at)

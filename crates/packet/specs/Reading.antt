@@ -9,7 +9,7 @@ use Rattle.sheet.specs.declared.Sheet.{Sheet}
 use Rattle.sheet.specs.Value.{validAlone}
 use Rattle.packet.specs.declared.Numbers.{Numbers}
 use Rattle.packet.specs.declared.kind.Slot.{Slot}
-use Rattle.packet.specs.Header.{checked, ackAsked, ssrcIn}
+use Rattle.packet.specs.Header.{pastChecks, ackAsked, ssrcIn}
 use Rattle.packet.specs.Walk.{fieldsOf, whole}
 use Rattle.packet.specs.Kind.{Kind, kindOf, slotsOf, numbersOf}
 use Rattle.packet.specs.Judge.{Held, granted, filledIn, faultOf, heldBy}
@@ -38,7 +38,7 @@ readAs n p (some k) =
     check (whole p) 4 (messageOf p (k .kind) (slotsIn n p k) (faultOf p (slotsIn n p k) (fieldsOf p)))
 
 unfoldable pub readBy : Numbers → List ℕ → Outcome
-readBy n p = checked (λ (number : ℕ). refused number 0) p (readAs n p (kindOf n p))
+readBy n p = pastChecks (λ (number : ℕ). refused number 0) p (readAs n p (kindOf n p))
 
 -- "line 0, before all other checks, for a sheet value handed to a call that no sheet reads to"
 unfoldable pub readOf : Sheet → List ℕ → Outcome

@@ -16,7 +16,7 @@ pub struct Field {
     pub next: usize,
 }
 
-// What stands at a place: a field, the packet's end, or 4.
+// What a step says: the field at a place, the end, or a refusal.
 pub enum Step {
     Field(Field),
     End,
@@ -30,7 +30,7 @@ fn bad() -> Step
     Step::Refused(Refusal { number: 4, at: 0 })
 }
 
-// The field at a place; the end; or 4 for a bad field, or a place below 12, off a word or past the end.
+// The field at a place of any octets; the end; or 4 for a bad field, or a place below 12, off a word or past the end.
 pub fn field_at(packet: &[u8], at: usize) -> Step
     ensures { λ r. ⌜ field-at≡ (now (packet .entry)) at r ⌝ }
 {

@@ -4,7 +4,7 @@ use super::codes::FIRST_FIELD;
 ghost use mathlib.Core.Path.{_≡_};
 ghost use Prim.Native.Nat.{_≤_};
 ghost use lib.ListN.{length};
-ghost use Rattle.packet.specs.Header.{sizeRight, headRight, checkFailed};
+ghost use Rattle.packet.specs.Header.{sizeRight, headRight, failedCheck};
 
 // The most octets of a packet.
 const MOST: usize = 256;
@@ -37,11 +37,14 @@ fn is_head_right(packet: &[u8]) -> bool
 }
 
 // The check that a packet fails first, 1 or 2; or 0.
-pub fn check_failed(packet: &[u8]) -> u32
-    ensures { λ r. ⌜ r ≡ checkFailed (now (packet .entry)) ⌝ }
+pub fn failed_check(packet: &[u8]) -> u32
+    ensures { λ r. ⌜ r ≡ failedCheck (now (packet .entry)) ⌝ }
 {
     if !is_size_right(packet) {
         return 1;
     }
-    if is_head_right(packet) { 0 } else { 2 }
+    if !is_head_right(packet) {
+        return 2;
+    }
+    0
 }

@@ -1,4 +1,4 @@
-// RTCP APP packets of MCVideo (document 01, "Packet"; RFC 3550, 6.7): read as one of seven messages.
+// RTCP APP packets of MCVideo (document 01, "Packet"; RFC 3550, 6.7): read as one of seven messages, or field by field.
 pub mod codes;
 pub mod field;
 mod header;
@@ -180,7 +180,7 @@ fn read_kind(numbers: Numbers, packet: &[u8], kind: u32, head: Head) -> Reading
 pub fn read_by(numbers: Numbers, packet: &[u8]) -> Reading
     ensures { λ r. ⌜ read-by≡ numbers (now (packet .entry)) r ⌝ }
 {
-    let failed = header::check_failed(packet);
+    let failed = header::failed_check(packet);
     if failed != 0 {
         return refused(failed);
     }

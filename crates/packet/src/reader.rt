@@ -1,22 +1,22 @@
 // A reader that remembers its packet and its place, and hands out one field at a time (document 01, "Packet").
 use super::field::Step;
 use super::field::field_at;
-use super::header::check_failed;
+use super::header::failed_check;
 use sheet::Refusal;
 ghost use mathlib.Core.Path.{_≡_};
 ghost use Rattle.packet.specs.Message.{stepSaid};
 ghost use Rattle.packet.specs.Walk.{stepOf};
 ghost use Rattle.packet.specs.Reader.{refusalOf, startOf, movedTo};
-ghost use Rattle.packet.specs.Inner.{unless};
+ghost use Rattle.packet.specs.Inner.{refusedOr};
 ghost use Rattle.packet.specs.Promises.{reader-at≡, next-field≡, field-in≡};
 
-// A packet that passed checks 1 and 2, and the place of the next field in it.
+// A packet and a place in it. Only this module makes one, or moves it.
 pub struct FieldReader<'a> {
     packet: &'a [u8],
     at: usize,
 }
 
-// A reader, and 0; or 1 or 2, beside a reader at octet 0, which hands out nothing.
+// A reader, and 0 for no refusal; or 1 or 2, and beside it a reader at octet 0, which hands out nothing.
 pub struct Made<'a> {
     pub reader: FieldReader<'a>,
     pub refusal: Refusal,
@@ -28,7 +28,7 @@ pub struct Handed<'a> {
     pub said: Step,
 }
 
-// Where a reader starts, and 0; or 1 or 2.
+// Where a reader starts, and the refusal.
 struct Start {
     at: usize,
     refusal: Refusal,
@@ -40,29 +40,29 @@ struct Moved {
     said: Step,
 }
 
-// Checks 1 and 2.
+// At the place, where the packet passes checks 1 and 2; else at octet 0, with the refusal.
 fn start_at(packet: &[u8], at: usize) -> Start
     ensures { λ r. ⌜ r ≡ record { at = startOf (now (packet .entry)) at; refusal = refusalOf (now (packet .entry)) } ⌝ }
 {
-    let number = check_failed(packet);
+    let number = failed_check(packet);
     Start {
         at: if number == 0 { at } else { 0 },
         refusal: Refusal { number, at: 0 },
     }
 }
 
-// Past a field that was found; else the place itself.
+// The place past a field; at the end and at a refusal, the place itself.
 fn past(said: Step, at: usize) -> usize
     ensures { λ r. ⌜ r ≡ movedTo (stepSaid said) at ⌝ }
 {
     match said {
         Step::Field(field) => field.next,
         Step::End => at,
-        Step::Refused(refusal) => at,
+        Step::Refused(_) => at,
     }
 }
 
-// A step from a place.
+// What a step from a place says, and where it leads.
 fn step_from(packet: &[u8], at: usize) -> Moved
     ensures { λ r. ⌜ (r .at ≡ movedTo (stepOf (now (packet .entry)) at) at) × (stepSaid (r .said) ≡ stepOf (now (packet .entry)) at) ⌝ }
 {
@@ -73,9 +73,9 @@ fn step_from(packet: &[u8], at: usize) -> Moved
     }
 }
 
-// What a step said, unless there was no reader.
-fn unless(refusal: Refusal, said: Step) -> Step
-    ensures { λ r. ⌜ stepSaid r ≡ unless refusal (stepSaid said) ⌝ }
+// A refusal, where there is one; else what a step said.
+fn refused_or(refusal: Refusal, said: Step) -> Step
+    ensures { λ r. ⌜ stepSaid r ≡ refusedOr refusal (stepSaid said) ⌝ }
 {
     if refusal.number != 0 {
         return Step::Refused(refusal);
@@ -83,7 +83,7 @@ fn unless(refusal: Refusal, said: Step) -> Step
     said
 }
 
-// Makes a reader at a place of a packet, only after checks 1 and 2.
+// Makes a reader at a place of a packet, only after checks 1 and 2; else gives 1 or 2.
 pub fn reader_at<'a>(packet: &'a [u8], at: usize) -> Made<'a>
     ensures { λ r. ⌜ reader-at≡ (packet .entry) at r ⌝ }
 {
@@ -111,11 +111,11 @@ pub fn next_field<'a>(reader: FieldReader<'a>) -> Handed<'a>
     }
 }
 
-// One step of a reader at a place of a packet: the field, the end, or 1, 2 or 4.
+// Makes a reader at a place of a packet and steps once: the field, the end, or 1, 2 or 4.
 pub fn field_in(packet: &[u8], at: usize) -> Step
     ensures { λ r. ⌜ field-in≡ (now (packet .entry)) at r ⌝ }
 {
     let made = reader_at(packet, at);
     let handed = next_field(made.reader);
-    unless(made.refusal, handed.said)
+    refused_or(made.refusal, handed.said)
 }

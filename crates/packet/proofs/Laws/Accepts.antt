@@ -14,12 +14,13 @@ use Rattle.packet.specs.declared.field.Field.{Field}
 use Rattle.packet.specs.declared.kind.Form.the-variants.{Cause, Result}
 use Rattle.packet.specs.declared.kind.Slot.{Slot}
 use Rattle.packet.specs.declared.Numbers.{Numbers}
-use Rattle.packet.specs.Header.{sizeRight, headRight, ackAsked, ssrcIn}
+use Rattle.packet.specs.Header.{ackAsked, ssrcIn}
 use Rattle.packet.specs.Walk.{fieldsOf, whole}
 use Rattle.packet.specs.Kind.{always, unlessGranted, Row, row, indicator, Kind, kinds, hasKind, kindOf, settled, slotsOf, mayLack, isResult, grants}
 use Rattle.packet.specs.Judge.{Held, fits, heldIn, fieldsWith, numberAt, grantIn, granted, filledIn, faultOf, heldBy}
 use Rattle.packet.specs.Reading.{reads, slotsIn, messageOf, readAs, readBy}
 use Rattle.packet.specs.Claims.{Headed, present, AllowsAll, isOne, AcceptsExactly}
+use Rattle.packet.proofs.Laws.Checks.{readBy-past}
 use Rattle.packet.proofs.Laws.Allowed.{uses, orderly, arranged-used, present-own, Judged, Allowed, judged-allowed, allowed-judged}
 
 -- ---- Result
@@ -103,8 +104,8 @@ kind-orderly n p k e = first-all (hasKind p) k (KindRight n p) (kinds n) (kinds-
 -- past checks 1 to 4 it is the judging
 pub readBy-is : (n : Numbers) (p : List ℕ) (k : Kind) → Headed p → kindOf n p ≡ some k → T (whole p)
     → readBy n p ≡ messageOf p (k .kind) (slotsIn n p k) (faultOf p (slotsIn n p k) (fieldsOf p))
-unfolding readBy readAs
-readBy-is n p k h e w = rw (T-true (sizeRight p) (h .0), T-true (headRight p) (h .1), e, T-true (whole p) w)
+unfolding readAs
+readBy-is n p k h e w = rw (readBy-past n p h, e, T-true (whole p) w)
 
 -- a message's values are those judged
 pub messageOf-reads : (p : List ℕ) (kind : ℕ) (slots : List Slot) (o : Option ℕ) (k ssrc : ℕ) (ack : Bool) (values : List Held)

@@ -3,7 +3,7 @@ use mathlib.Core.Path.{_≡_, refl, sym, ap, ap₂, _∙_}
 use mathlib.Core.Logic.{⊎-elim}
 use mathlib.Core.Bool.{Bool, true, false}
 use mathlib.Core.List.{List, [], _∷_}
-use Prim.Native.Nat.{ℕ, _%_, _≤_}
+use Prim.Native.Nat.{ℕ}
 use native.Mathlib.Nat.{eq-or-lt-of-le}
 use native.Mathlib.Omega.{arith}
 use lib.ListN.{length}
@@ -11,49 +11,44 @@ use lib.Dec.{T, eqb}
 use borrow.Author.Tests.{eq-eqb, ne-eqb}
 use denote.Ref.{RefT, now}
 use Rattle.octets.specs.Choice.{pick}
-use Rattle.octets.proofs.Choice.{T-true, decide}
+use Rattle.octets.proofs.Choice.{decide}
 use Rattle.packet.specs.declared.field.Field.{Field}
 use Rattle.packet.specs.declared.field.Step.{Step}
-use Rattle.packet.specs.declared.field.Step.the-variants.{Field as FieldStep, End as EndStep}
+use Rattle.packet.specs.declared.field.Step.the-variants.{Field as FieldStep, End as EndStep, Refused as RefusedStep}
 use Rattle.packet.specs.declared.reader.FieldReader.{FieldReader}
 use Rattle.packet.specs.declared.reader.Made.{Made}
 use Rattle.packet.specs.declared.reader.Handed.{Handed}
-use Rattle.packet.specs.Header.{firstField, sizeRight, headRight, checkFailed}
+use Rattle.packet.specs.Header.{firstField, failedCheck}
 use Rattle.packet.specs.Walk.{Stepped, field, refused, fieldRight, fieldAt, nextAt, fieldsFrom, fieldsOf, stopFrom, whole, stepOf}
 use Rattle.packet.specs.Message.{stepSaid}
 use Rattle.packet.specs.Apart.{step-apart}
 use Rattle.packet.specs.Reader.{startOf, movedTo, readerAfter, fieldIn}
-use Rattle.packet.specs.Inner.{unless}
+use Rattle.packet.specs.Inner.{refusedOr}
 use Rattle.packet.specs.Promises.{reader-at≡, next-field≡}
-use Rattle.packet.specs.Claims.{Headed, HandsOut, Stays, refused4, MadeExactly, NothingBeside, StepsAsTheWalk}
+use Rattle.packet.specs.Claims.{Headed, HandsOut, Stays, refused4, MadeExactly, NothingBeside, StepsAsTheWalk, SaidByAReader}
 use Rattle.packet.proofs.Laws.Sized.{sized}
-use Rattle.packet.proofs.Laws.Checks.{checked-by, checks-past, past-checks, readBy-failed}
+use Rattle.packet.proofs.Laws.Checks.{pastChecks-by, pastChecks-headed, failedCheck-exactly}
 use Rattle.packet.proofs.Laws.Walk.{next-after, next-word, right-next, fieldsFrom-right, fieldsFrom-wrong, stopFrom-right, stopFrom-wrong, walk-ind}
-use Rattle.packet.proofs.Laws.Step.{step-misplaced, step-end, step-wrong, step-right}
+use Rattle.packet.proofs.Laws.Step.{Placed, step-misplaced, step-end, step-wrong, step-right}
 
 -- a reader that is made and steps once says what `fieldIn` says
 pub fieldIn-step : (packet : RefT (List ℕ)) (at : ℕ) (m : Made) (h : Handed) → reader-at≡ packet at m → next-field≡ (m .reader) h
-    → unless (m .refusal) (stepSaid (h .said)) ≡ fieldIn (now packet) at
+    → refusedOr (m .refusal) (stepSaid (h .said)) ≡ fieldIn (now packet) at
 unfolding fieldIn startOf
 fieldIn-step packet at m h e f =
     let p = now packet in
-    rw (f .1, e, checked-by (λ (number : ℕ). 0) p at, checked-by (λ (number : ℕ). refused number 0) p (stepOf p at)) (step (eqb (checkFailed p) 0))
+    rw (f .1, e, pastChecks-by (λ (number : ℕ). 0) p at, pastChecks-by (λ (number : ℕ). refused number 0) p (stepOf p at)) (step (eqb (failedCheck p) 0))
   where
-    step : (b : Bool) → pick b (stepOf (now packet) (pick b at 0)) (refused (checkFailed (now packet)) 0) ≡ pick b (stepOf (now packet) at) (refused (checkFailed (now packet)) 0)
+    step : (b : Bool) → pick b (stepOf (now packet) (pick b at 0)) (refused (failedCheck (now packet)) 0) ≡ pick b (stepOf (now packet) at) (refused (failedCheck (now packet)) 0)
     step true = refl
     step false = refl
 
 -- ---- a step at a place that a walk from 12 comes to
 
-pub record OnWalk (p : List ℕ) (at : ℕ) : Type 0 where
-  pub least : firstField ≤ at
-  pub word : at % 4 ≡ 0
-  pub inside : at ≤ length p
-
-on-first : (p : List ℕ) → Headed p → OnWalk p firstField
+on-first : (p : List ℕ) → Headed p → Placed p firstField
 on-first p h = record { least = omega arith; word = refl; inside = sized p (h .0) .least }
 
-on-next : (p : List ℕ) (at : ℕ) → OnWalk p at → T (fieldRight p at) → OnWalk p (nextAt p at)
+on-next : (p : List ℕ) (at : ℕ) → Placed p at → T (fieldRight p at) → Placed p (nextAt p at)
 on-next p at o t =
     record {
       least = omega (arith, o .least, next-after p at);
@@ -62,7 +57,7 @@ on-next p at o t =
     }
 
 -- a right field is handed out
-step-field : (p : List ℕ) (at : ℕ) → OnWalk p at → T (fieldRight p at) → stepOf p at ≡ field (fieldAt p at)
+step-field : (p : List ℕ) (at : ℕ) → Placed p at → T (fieldRight p at) → stepOf p at ≡ field (fieldAt p at)
 unfolding fieldAt
 step-field p at o t = step-right p at (o .least) (o .word) t (nextAt p at) refl
 
@@ -71,7 +66,7 @@ abbrev restOf : List ℕ → ℕ → Step
 restOf p at = pick (eqb at (length p)) EndStep refused4
 
 -- at any other place the end is told, or 4
-step-rest : (p : List ℕ) (at : ℕ) → OnWalk p at → fieldRight p at ≡ false → stepSaid (restOf p at) ≡ stepOf p at
+step-rest : (p : List ℕ) (at : ℕ) → Placed p at → fieldRight p at ≡ false → stepSaid (restOf p at) ≡ stepOf p at
 step-rest p at o w =
     ⊎-elim
     (λ e. rw (eq-eqb at (length p) e) (sym (step-end p at (o .least) (o .word) e)))
@@ -97,13 +92,13 @@ module _ (packet : RefT (List ℕ)) where
   on at = record { packet = packet; at = at }
 
   -- a reader stays where no right field is, ..
-  stays : (at : ℕ) → OnWalk p at → fieldRight p at ≡ false → Stays (on at) (restOf p at)
+  stays : (at : ℕ) → Placed p at → fieldRight p at ≡ false → Stays (on at) (restOf p at)
   stays at o w =
       let e = step-rest p at o w in
       (ap on (sym (ap (λ (x : Stepped). movedTo x at) (sym e) ∙ rest-stays (eqb at (length p)) at)), e)
 
   -- .. and nowhere else
-  stays-only : (at : ℕ) (said : Step) → OnWalk p at → Stays (on at) said → (fieldRight p at ≡ false) × (said ≡ restOf p at)
+  stays-only : (at : ℕ) (said : Step) → Placed p at → Stays (on at) said → (fieldRight p at ≡ false) × (said ≡ restOf p at)
   unfolding fieldAt
   stays-only at said o st =
       ⊎-elim
@@ -112,21 +107,21 @@ module _ (packet : RefT (List ℕ)) where
       (decide (fieldRight p at))
 
   -- a step over a right field
-  over : (at : ℕ) → OnWalk p at → T (fieldRight p at) → readerAfter (on at) ≡ on (nextAt p at)
+  over : (at : ℕ) → Placed p at → T (fieldRight p at) → readerAfter (on at) ≡ on (nextAt p at)
   unfolding fieldAt
   over at o t = ap (λ (x : Stepped). on (movedTo x at)) (step-field p at o t)
 
   -- from a place on the fields of the walk are handed out, up to where it stops
-  hands : (at : ℕ) → OnWalk p at → HandsOut (on at) (fieldsFrom p at) (on (stopFrom p at)) × Stays (on (stopFrom p at)) (restOf p (stopFrom p at))
+  hands : (at : ℕ) → Placed p at → HandsOut (on at) (fieldsFrom p at) (on (stopFrom p at)) × Stays (on (stopFrom p at)) (restOf p (stopFrom p at))
   hands =
-      walk-ind p (λ at. OnWalk p at → HandsOut (on at) (fieldsFrom p at) (on (stopFrom p at)) × Stays (on (stopFrom p at)) (restOf p (stopFrom p at)))
+      walk-ind p (λ at. Placed p at → HandsOut (on at) (fieldsFrom p at) (on (stopFrom p at)) × Stays (on (stopFrom p at)) (restOf p (stopFrom p at)))
       (λ at w o. rw (fieldsFrom-wrong p at w, stopFrom-wrong p at w) (refl, stays at o w))
       (λ at t r o.
       let rest = r (on-next p at o t) in
       rw (fieldsFrom-right p at t, stopFrom-right p at t) ((record { reader = on (nextAt p at); said = FieldStep (fieldAt p at) }, (sym (over at o t), sym (step-field p at o t)), refl, rest .0), rest .1))
 
   -- and nothing else
-  hands-only : (fs : List Field) (s : FieldReader) (said : Step) (at : ℕ) → OnWalk p at → HandsOut (on at) fs s → Stays s said
+  hands-only : (fs : List Field) (s : FieldReader) (said : Step) (at : ℕ) → Placed p at → HandsOut (on at) fs s → Stays s said
       → (fs ≡ fieldsFrom p at) × (s ≡ on (stopFrom p at)) × (said ≡ restOf p (stopFrom p at))
   hands-only [] s said at o e st =
       let only = stays-only at said o (rw e at st) in
@@ -145,21 +140,28 @@ module _ (packet : RefT (List ℕ)) where
 -- ---- the claims
 
 pub made-exactly : MadeExactly
-made-exactly packet at m e =
-    rw e ((checks-past (now packet), past-checks (now packet)), λ n h. readBy-failed n (now packet) h)
+made-exactly packet at m e = rw e (failedCheck-exactly (now packet))
 
 pub nothing-beside : NothingBeside
 unfolding startOf
 nothing-beside packet at m e h =
     let p = now packet in
-    let misplaced = step-misplaced p 0 (λ x. omega (arith, x .0)) in
-    rw (e, checked-by (λ (number : ℕ). 0) p at, ne-eqb (checkFailed p) 0 (rw e at h)) (ap (λ (x : Stepped). on packet (movedTo x 0)) (sym misplaced), sym misplaced)
+    let misplaced = step-misplaced p 0 (λ o. omega arith) in
+    rw (e, pastChecks-by (λ (number : ℕ). 0) p at, ne-eqb (failedCheck p) 0 (rw e at h)) (ap (λ (x : Stepped). on packet (movedTo x 0)) (sym misplaced), sym misplaced)
 
 pub steps-as-the-walk : StepsAsTheWalk
 unfolding startOf fieldsOf whole
 steps-as-the-walk packet m fs s said h e =
     let o = on-first (now packet) h in
-    let reader : m .reader ≡ on packet firstField = rw (e, T-true (sizeRight (now packet)) (h .0), T-true (headRight (now packet)) (h .1)) in (
+    let reader : m .reader ≡ on packet firstField = rw (e, pastChecks-headed (λ (number : ℕ). 0) (now packet) firstField h) in (
       (λ x. hands-only packet fs s said firstField o (rw reader at (x .0)) (x .1)),
       λ x. rw (x .0, x .1, x .2, reader) (hands packet firstField o),
+    )
+
+pub said-by-a-reader : SaidByAReader
+said-by-a-reader packet at m h r e f g =
+    let number = m .refusal .number in
+    let said = g ∙ sym (fieldIn-step packet at m h e f) in (
+      (λ z. step-apart r (h .said) (said ∙ rw (eq-eqb number 0 z))),
+      λ n. step-apart r (RefusedStep (m .refusal)) (said ∙ rw (ne-eqb number 0 n)),
     )

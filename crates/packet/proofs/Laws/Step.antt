@@ -11,6 +11,7 @@ use lib.Dec.{T, leb, eqb, leb→le, eqb→eq}
 use borrow.Author.Tests.{le-leb, eq-eqb, ne-eqb}
 use Rattle.octets.specs.Choice.{pick}
 use Rattle.octets.proofs.Choice.{T-true, T-false, T-and-left, T-and-right, decide, pick-true, pick-false, pick-cases}
+use Rattle.packet.specs.Header.{firstField}
 use Rattle.packet.specs.Walk.{valueEnd, nextAt, padding, fieldRight, fieldAt, stopFrom, field, end, refused, placeRight, stepOf}
 use Rattle.packet.proofs.Laws.Walk.{next-after, right-next, right-end, padding-slice, stopFrom-pick, stopFrom-wrong}
 
@@ -65,32 +66,39 @@ module _ (p : List ℕ) (at next : ℕ) (is : next ≡ nextAt p at) (ends : next
 
 -- ---- what stands at a place
 
--- a right place is on a word of the packet, behind its header
-right-place : (p : List ℕ) (at : ℕ) → T (placeRight p at) → (12 ≤ at) × (at % 4 ≡ 0) × (at ≤ length p)
+-- a place on a word of the packet, behind its header
+pub record Placed (p : List ℕ) (at : ℕ) : Type 0 where
+  pub least : firstField ≤ at
+  pub word : at % 4 ≡ 0
+  pub inside : at ≤ length p
+
+-- a right place is one
+right-place : (p : List ℕ) (at : ℕ) → T (placeRight p at) → Placed p at
 unfolding placeRight
 right-place p at t =
     let word-inside = eqb (at % 4) 0 && leb at (length p) in
-    let r = T-and-right (leb 12 at) word-inside t in (
-      leb→le 12 at (T-and-left (leb 12 at) word-inside t),
-      eqb→eq (at % 4) 0 (T-and-left (eqb (at % 4) 0) (leb at (length p)) r),
-      leb→le at (length p) (T-and-right (eqb (at % 4) 0) (leb at (length p)) r),
-    )
+    let r = T-and-right (leb 12 at) word-inside t in
+    record {
+      least = leb→le 12 at (T-and-left (leb 12 at) word-inside t);
+      word = eqb→eq (at % 4) 0 (T-and-left (eqb (at % 4) 0) (leb at (length p)) r);
+      inside = leb→le at (length p) (T-and-right (eqb (at % 4) 0) (leb at (length p)) r);
+    }
 
 -- and such a place is right
-place-right : (p : List ℕ) (at : ℕ) → 12 ≤ at → at % 4 ≡ 0 → at ≤ length p → placeRight p at ≡ true
+place-right : (p : List ℕ) (at : ℕ) → Placed p at → placeRight p at ≡ true
 unfolding placeRight
-place-right p at h w l = rw (le-leb 12 at h, eq-eqb (at % 4) 0 w, le-leb at (length p) l)
+place-right p at o = rw (le-leb 12 at (o .least), eq-eqb (at % 4) 0 (o .word), le-leb at (length p) (o .inside))
 
 module _ (p : List ℕ) (at : ℕ) where
   -- a place that is not right is refused
-  pub step-misplaced : ((12 ≤ at) × (at % 4 ≡ 0) × (at ≤ length p) → ⊥) → stepOf p at ≡ refused 4 0
+  pub step-misplaced : (Placed p at → ⊥) → stepOf p at ≡ refused 4 0
   unfolding stepOf
   step-misplaced n = rw (T-false (placeRight p at) (λ t. n (right-place p at t)))
 
   -- the end of the packet
   pub step-end : 12 ≤ at → at % 4 ≡ 0 → at ≡ length p → stepOf p at ≡ end
   unfolding stepOf
-  step-end h w e = rw (place-right p at h w (omega arith), eq-eqb at (length p) e)
+  step-end h w e = rw (place-right p at (record { least = h; word = w; inside = omega arith }), eq-eqb at (length p) e)
 
   -- before the end a wrong field is refused
   pub step-wrong : at < length p → fieldRight p at ≡ false → stepOf p at ≡ refused 4 0
@@ -104,4 +112,4 @@ module _ (p : List ℕ) (at : ℕ) where
   unfolding stepOf fieldAt
   step-right h w t next is =
       let inside : at < length p = omega (arith, right-next p at t, next-after p at) in
-      rw (place-right p at h w (omega arith), ne-eqb at (length p) (omega arith), T-true (fieldRight p at) t, is)
+      rw (place-right p at (record { least = h; word = w; inside = omega arith }), ne-eqb at (length p) (omega arith), T-true (fieldRight p at) t, is)

@@ -8,33 +8,34 @@ use borrow.Author.Tests.{ne-eqb}
 use native.Mathlib.Omega.{arith}
 use denote.Ref.{now}
 use lib.ListN.{length}
-use Rattle.packet.specs.Header.{firstField, checkFailed}
+use Rattle.packet.specs.Header.{firstField}
 use Rattle.packet.specs.Walk.{stopFrom, whole}
 use Rattle.packet.specs.Reading.{readAs, readBy}
 use Rattle.packet.specs.Inner.{kindNumbered}
+use Rattle.packet.specs.Claims.{Headed}
 use Rattle.packet.proofs.Laws.Sized.{Sized, sized}
-use Rattle.packet.proofs.Laws.Checks.{checks-past, readBy-past, readBy-failed}
+use Rattle.packet.proofs.Laws.Checks.{readBy-past, readBy-failed, failedCheck-exactly}
 use Rattle.packet.proofs.Laws.Walk.{stopFrom-le}
 use Rattle.packet.proofs.Laws.Values.{readAs-cut}
 use Rattle.packet.proofs.read_by.Statement.{statement}
 use Rattle.packet.proofs.read_by.Tie as tie
 
 -- the packet past checks 1 and 2
-past : (c : tie.Else1) → checkFailed (now (c .before .before .before .args .packet)) ≡ 0
-past c = sym (c .before .check-failed .ensures) ∙ c .if1 .left
+past : (c : tie.Else1) → Headed (now (c .before .before .before .args .packet))
+past c = failedCheck-exactly (now (c .before .before .before .args .packet)) .0 .0 (sym (c .before .failed-check .ensures) ∙ c .if1 .left)
 
 past-size : (c : tie.Else1) → Sized (now (c .before .before .before .args .packet))
-past-size c = let p = now (c .before .before .before .args .packet) in sized p (checks-past p (past c) .0)
+past-size c = sized (now (c .before .before .before .args .packet)) (past c .0)
 
-check-failed-requires : tie.Need-check-failed-requires
-check-failed-requires c κs = search needs
+failed-check-requires : tie.Need-failed-check-requires
+failed-check-requires c κs = search needs
 
 refused-requires : tie.Need-refused-requires
 refused-requires c κs = search needs
 
 returns : tie.Need-returns
 returns c =
-    let failed = c .before .before .check-failed .ensures in
+    let failed = c .before .before .failed-check .ensures in
     let a = c .before .before .before .before .args in
     rw (c .refused .ensures, failed) (sym (readBy-failed (a .numbers) (now (a .packet)) (λ z. c .before .if1 .taken (failed ∙ z))))
 
@@ -105,7 +106,7 @@ pub read-by-spec : {M : Type 1} → statement M
 read-by-spec =
     tie.close
     (tie.spec
-    check-failed-requires
+    failed-check-requires
     refused-requires
     returns
     head-of-requires

@@ -22,7 +22,7 @@ use sound.WpLaws.{FmC, fmOf, WpFn-mono}
 use denote.RattleType.{RattleType}
 use denote.Laws.{Is}
 use denote.Builtin.{u8}
-use denote.Ref.{RefT, NamedLft, now}
+use denote.Ref.{RefT, now}
 use denote.Signature.{namedLft}
 use denote.Slice.{ShrSlice, shr-slice-lawful}
 use denote.Steps.{owned, nothing}
@@ -41,7 +41,7 @@ use Rattle.packet.specs.Reader.{movedTo}
 use Rattle.packet.specs.declared.reader.Handed.{Handed}
 use Rattle.packet.specs.declared.reader.Moved.{Moved}
 use Rattle.packet.proofs.Laws.Called.{calls}
-use Rattle.packet.proofs.Laws.Held.{packetVal, Packet, readerAt, Reader, PassedReader, reader-is, packet-twice, packet-reader, passed-reader-packet, packet-passed-reader, hands-on}
+use Rattle.packet.proofs.Laws.Owned.{α, αᵉ, packetVal, Packet, readerAt, Reader, PassedReader, reader-is, packet-twice, packet-reader, passed-reader-packet, packet-passed-reader, hands-on}
 use Rattle.packet.proofs.field.Step as E
 use Rattle.packet.proofs.field.Step.Laws as E′
 use Rattle.packet.proofs.reader.FieldReader as T
@@ -72,13 +72,6 @@ module _ {M : Type 1} (𝓤 : URA M) (H : Heap 𝓤) (A : Atoms 𝓤) (mem : Mem
   StepFrom = tripleOf 𝓤 H A step.signature (step.spec 𝓤 H A mem run)
 
 module _ {M : Type 1} (𝓤 : URA M) (H : Heap 𝓤) (A : Atoms 𝓤) (W : Given 𝓤 H A) (mem : Memory → SProp 𝓤) (run : Routine → Fun 𝓤) (κ : Lft) (q : Share) (s : RefT (List ℕ)) (n : ℕ) (p : Is (ShrSlice (named 0) κ u8) s (packetVal κ s ∷ [])) (fits : n < 2 ^ 64) where
-  -- the lifetime as the signature has it, and as MIR has it in a local
-  abbrev α : NamedLft
-  α = namedLft 1 0 tt (κ, tt)
-
-  abbrev αᵉ : NamedLft
-  αᵉ = record { mir = erased; lft = κ }
-
   abbrev mach : Val
   mach = T′.lowered (readerAt κ s n)
 
@@ -98,21 +91,21 @@ module _ {M : Type 1} (𝓤 : URA M) (H : Heap 𝓤) (A : Atoms 𝓤) (W : Given
   handed r = record { reader = readerAt κ s (r .at); said = r .said }
 
   module _ (r : Moved) (e : Found r) (is : Is S.the-row r (LL.vals S.the-type S′.the-laws r)) where
-    exits : ent 𝓤 (⋆ 𝓤 H A (raw Token ∷ ‵ (Packet κ s) ∷ [])) (Post (LL.val (O.the-type α) (O′.the-laws α) (handed r)))
+    exits : ent 𝓤 (⋆ 𝓤 H A (raw Token ∷ ‵ (Packet κ s) ∷ [])) (Post (LL.val (O.the-type (α κ)) (O′.the-laws (α κ)) (handed r)))
     exits =
         qed W (raw Token ∷ ‵ (Packet κ s) ∷ []) ∵
-        suffices ! _ (ends-at 𝓤 H A next.ended stayed (next.clauses 𝓤 H A mem run) W (((κ, tt), (q, tt), tt, (readerAt κ s n, tt), (mach ∷ [], tt)), tt) (LL.val (O.the-type α) (O′.the-laws α) (handed r)) (handed r) (tt, tt) (tt, tt)) $
+        suffices ! _ (ends-at 𝓤 H A next.ended stayed (next.clauses 𝓤 H A mem run) W (((κ, tt), (q, tt), tt, (readerAt κ s n, tt), (mach ∷ [], tt)), tt) (LL.val (O.the-type (α κ)) (O′.the-laws (α κ)) (handed r)) (handed r) (tt, tt) (tt, tt)) $
         says ! (ap (readerAt κ s) (e .0), e .1) $ frame ! $ use1 W (‵ (Packet κ s) ⊛ ‵ (Packet κ s)) (packet-twice κ s 𝓤 H A W) $ split ! $ use1 W (‵ (PassedReader κ s n)) (packet-passed-reader κ s 𝓤 H A W n fits) $ frame ! $
         use1 W (‵ (Reader κ s (r .at))) (packet-reader κ s 𝓤 H A W (r .at) (LL.owed S.the-type S′.the-laws r _ is .0 .1)) $
         nothing ! $ owned ! E.the-row (Is E.the-row) (EL.makes E.the-type E′.the-plain 𝓤 H A) (r .said) _ (LL.owed S.the-type S′.the-laws r _ is .1 .0) $ fjoin ! $ move ! (1 ∷ 0 ∷ []) $ fjoin ! $
-        by ! (own-shut 𝓤 H A W (O.the-type α) (O′.the-laws α) (readerAt κ s (r .at), (r .said, tt)))
+        by ! (own-shut 𝓤 H A W (O.the-type (α κ)) (O′.the-laws (α κ)) (readerAt κ s (r .at), (r .said, tt)))
 
   module _ (C : Calls 𝓤 H) (Λ : Loops 𝓤 H) (fm : FmC 𝓤 H (W .laws) C) (known : Triple 𝓤 (C #step-from) (StepFrom 𝓤 H A mem run)) where
     walk : ent 𝓤 (onEntry 𝓤 H A next.signature (κ, tt) (q, tt) (readerAt κ s n, tt) (mach ∷ [], tt)) (WpFn 𝓤 H C Λ code.function (mach ∷ []) Post)
     walk =
         qed W (raw (onEntry 𝓤 H A next.signature (κ, tt) (q, tt) (readerAt κ s n, tt) (mach ∷ [], tt)) ∷ []) ∵ use1 W (raw Token ⊛ ‵ (Packet κ s)) (monoR 𝓤 Token (passed-reader-packet κ s 𝓤 H A W n)) $ enter ! C Λ code.function (mach ∷ []) _ $
         alloc1 ! (λ l₀. alloc1 ! (λ l₁. alloc1 ! (λ l₂. alloc1 ! (λ l₃. alloc1 ! (λ l₄. alloc1 ! (λ l₅. alloc1 ! (λ l₆. alloc0 ! $ params1 ! $
-        pass1 ! (init ! 10 refl (LL.lawful (T.the-type α) (T′.the-laws α) 𝓤 H A W .typed (readerAt κ s n) _ (reader-is κ s α n p fits) .0)) $ pass0 ! $
+        pass1 ! (init ! 10 refl (LL.lawful (T.the-type (α κ)) (T′.the-laws (α κ)) 𝓤 H A W .typed (readerAt κ s n) _ (reader-is κ s (α κ) n p fits) .0)) $ pass0 ! $
         assigns ! (of-opd ! (load ! (from ! (fld ! refl (stop !))) (look-in ! 10 (sub ! 0 refl (whole !))))) (from ! (stop !)) (init ! 6 refl (shr-slice-lawful 𝓤 H A W erased κ u8 .typed s _ p .0)) $
         assigns ! (of-opd ! (load ! (from ! (fld ! refl (stop !))) (look-in ! 10 (sub ! 1 refl (whole !))))) (from ! (stop !)) (init ! 4 refl (tt, record { fits = fits })) $
         move ! (14 ∷ []) $ use1 W (raw (StepFrom 𝓤 H A mem run .pre to) ⊛ ‵ (Packet κ s)) (hands-on κ s 𝓤 H A W n fits Token) $ split ! $
@@ -122,9 +115,9 @@ module _ {M : Type 1} (𝓤 : URA M) (H : Heap 𝓤) (A : Atoms 𝓤) (W : Given
         land ! (from ! (stop !)) (init ! 10 refl (LL.lawful S.the-type S′.the-laws 𝓤 H A W .typed r _ is .0)) $
         assigns ! (of-opd ! (load ! (from ! (fld ! refl (stop !))) (look-in ! 12 (sub ! 0 refl (whole !))))) (from ! (stop !)) (init ! 4 refl (shr-slice-lawful 𝓤 H A W erased κ u8 .typed s _ p .0)) $
         assigns ! (agg ! (and-then ! (load ! (from ! (stop !)) (look ! 4 refl)) (and-then ! (load ! (from ! (fld ! refl (stop !))) (look-in ! 10 (sub ! 0 refl (whole !)))) (no-more !)))) (from ! (stop !))
-        (init ! 2 refl (LL.lawful (T.the-type αᵉ) (T′.the-laws αᵉ) 𝓤 H A W .typed (readerAt κ s (r .at)) _ (reader-is κ s αᵉ (r .at) p (LL.owed S.the-type S′.the-laws r _ is .0 .1)) .0)) $
+        (init ! 2 refl (LL.lawful (T.the-type (αᵉ κ)) (T′.the-laws (αᵉ κ)) 𝓤 H A W .typed (readerAt κ s (r .at)) _ (reader-is κ s (αᵉ κ) (r .at) p (LL.owed S.the-type S′.the-laws r _ is .0 .1)) .0)) $
         assigns ! (agg ! (and-then ! (load ! (from ! (stop !)) (look ! 2 refl)) (and-then ! (load ! (from ! (fld ! refl (stop !))) (look-in ! 10 (sub ! 1 refl (whole !)))) (no-more !)))) (from ! (stop !))
-        (init ! 14 refl (LL.lawful (O.the-type α) (O′.the-laws α) 𝓤 H A W .typed (handed r) _ (LL.owes (O.the-type α) (O′.the-laws α) (handed r) (reader-is κ s α (r .at) p (LL.owed S.the-type S′.the-laws r _ is .0 .1), (LL.owed S.the-type S′.the-laws r _ is .1 .0, tt))) .0)) $
+        (init ! 14 refl (LL.lawful (O.the-type (α κ)) (O′.the-laws (α κ)) 𝓤 H A W .typed (handed r) _ (LL.owes (O.the-type (α κ)) (O′.the-laws (α κ)) (handed r) (reader-is κ s (α κ) (r .at) p (LL.owed S.the-type S′.the-laws r _ is .0 .1), (LL.owed S.the-type S′.the-laws r _ is .1 .0, tt))) .0)) $
         returns ! (look ! 14 refl) $ forget ! 2 refl $ forget ! 4 refl $ forget ! 6 refl $ forget ! 8 refl $ forget ! 10 refl $ forget ! 12 refl $ forget ! 14 refl $
         move ! (14 ∷ 15 ∷ []) $ free1 ! $ move ! (12 ∷ 13 ∷ []) $ free1 ! $ move ! (10 ∷ 11 ∷ []) $ free1 ! $ move ! (8 ∷ 9 ∷ []) $ free1 ! $ move ! (6 ∷ 7 ∷ []) $ free1 ! $ move ! (4 ∷ 5 ∷ []) $ free1 ! $ move ! (2 ∷ 3 ∷ []) $ free1 ! $ free0 ! $ by ! (exits r e is)))))))))
 

@@ -7,29 +7,29 @@ use lib.Dec.{eqb}
 use denote.Ref.{now}
 use Rattle.octets.specs.Choice.{pick}
 use Rattle.packet.specs.Reader.{startOf}
-use Rattle.packet.proofs.Laws.Checks.{checked-by}
+use Rattle.packet.proofs.Laws.Checks.{pastChecks-by}
 use Rattle.packet.proofs.reader.start_at.Statement.{statement}
 use Rattle.packet.proofs.reader.start_at.Tie as tie
 
-check-failed-requires : tie.Need-check-failed-requires
-check-failed-requires c κs = search needs
+failed-check-requires : tie.Need-failed-check-requires
+failed-check-requires c κs = search needs
 
 -- what the number decides
-start-is : (c : tie.After-check-failed)
+start-is : (c : tie.After-failed-check)
     → let a = c .before .before .args in
-    startOf (now (a .packet)) (a .at) ≡ pick (eqb (c .check-failed .result) 0) (a .at) 0
+    startOf (now (a .packet)) (a .at) ≡ pick (eqb (c .failed-check .result) 0) (a .at) 0
 unfolding startOf
 start-is c =
     let a = c .before .before .args in
-    checked-by (λ (number : ℕ). 0) (now (a .packet)) (a .at) ∙ rw (sym (c .check-failed .ensures))
+    pastChecks-by (λ (number : ℕ). 0) (now (a .packet)) (a .at) ∙ rw (sym (c .failed-check .ensures))
 
 returns : tie.Need-returns
 returns c =
-    rw (start-is (c .before), sym (c .before .check-failed .ensures), eq-eqb (c .before .check-failed .result) 0 (c .if1 .taken))
+    rw (start-is (c .before), sym (c .before .failed-check .ensures), eq-eqb (c .before .failed-check .result) 0 (c .if1 .taken))
 
 returns-2 : tie.Need-returns-2
 returns-2 c =
-    rw (start-is (c .before), sym (c .before .check-failed .ensures), ne-eqb (c .before .check-failed .result) 0 (c .if1 .left))
+    rw (start-is (c .before), sym (c .before .failed-check .ensures), ne-eqb (c .before .failed-check .result) 0 (c .if1 .left))
 
 pub start-at-spec : {M : Type 1} → statement M
-start-at-spec = tie.close (tie.spec check-failed-requires returns returns-2)
+start-at-spec = tie.close (tie.spec failed-check-requires returns returns-2)

@@ -1,20 +1,20 @@
--- `packet::header::check_failed` meets its contract: the two checks in their order. Assumes nothing.
+-- `packet::header::failed_check` meets its contract: the two checks in their order. Assumes nothing.
 use mathlib.Core.Path.{_≡_, sym, _∙_}
 use mathlib.Core.Bool.{true}
 use borrow.Author.Needs.{needs}
 use borrow.Author.Tests.{not-true, not-false}
 use denote.Ref.{now}
 use Rattle.octets.proofs.Choice.{true-T}
-use Rattle.packet.specs.Header.{sizeRight, checkFailed}
+use Rattle.packet.specs.Header.{sizeRight, failedCheck}
 use Rattle.packet.proofs.Laws.Sized.{sized}
-use Rattle.packet.proofs.header.check_failed.Statement.{statement}
-use Rattle.packet.proofs.header.check_failed.Tie as tie
+use Rattle.packet.proofs.header.failed_check.Statement.{statement}
+use Rattle.packet.proofs.header.failed_check.Tie as tie
 
 is-size-right-requires : tie.Need-is-size-right-requires
 is-size-right-requires c κs = search needs
 
 returns : tie.Need-returns
-unfolding checkFailed
+unfolding failedCheck
 returns c = rw (sym (c .before .is-size-right .ensures) ∙ not-true _ (c .if1 .taken))
 
 -- past check 1
@@ -27,13 +27,13 @@ is-head-right-requires c κs =
     sized p (true-T (sizeRight p) (past c)) .least
 
 returns-2 : tie.Need-returns-2
-unfolding checkFailed
-returns-2 c = rw (past (c .before .before), sym (c .before .is-head-right .ensures) ∙ c .if2 .taken)
+unfolding failedCheck
+returns-2 c = rw (past (c .before .before), sym (c .before .is-head-right .ensures) ∙ not-true _ (c .if2 .taken))
 
 returns-3 : tie.Need-returns-3
-unfolding checkFailed
-returns-3 c = rw (past (c .before .before), sym (c .before .is-head-right .ensures) ∙ c .if2 .left)
+unfolding failedCheck
+returns-3 c = rw (past (c .before .before), sym (c .before .is-head-right .ensures) ∙ not-false _ (c .if2 .left))
 
-pub check-failed-spec : {M : Type 1} → statement M
-check-failed-spec =
+pub failed-check-spec : {M : Type 1} → statement M
+failed-check-spec =
     tie.close (tie.spec is-size-right-requires returns is-head-right-requires returns-2 returns-3)
