@@ -25,6 +25,7 @@ use Rattle.packet.specs.Layout.{Content, laid, laidAll, idRight, idsRigh
 use Rattle.packet.specs.Kind.{Row, Kind, kindOf, mayLack, mayHave, grants}
 use Rattle.packet.specs.Judge.{Held, absent, given, named, fieldsWith, fits, heldIn}
 use Rattle.packet.specs.Reading.{reads, readBy, readOf}
+use Rattle.packet.specs.Reader.{readerAt}
 use Rattle.packet.specs.Promises.{reader-at≡, next-field≡, field-in≡}
 
 -- ---- the walk
@@ -149,7 +150,7 @@ StepsAsTheWalk =
     → Headed (now packet) → reader-at≡ packet firstField m
     → (HandsOut (m .reader) fs s × Stays s said)
     ↔ ((fs ≡ fieldsOf (now packet))
-    × (s ≡ record { packet = packet; at = stopFrom (now packet) firstField })
+    × (s ≡ readerAt packet (stopFrom (now packet) firstField))
     × (said ≡ pick (whole (now packet)) EndStep refused4))
 
 -- What is said of a packet and a place is what making a reader there and a step of it say.

@@ -10,6 +10,9 @@ use Rattle.packet.specs.declared.reader.Made.{Made}
 use Rattle.packet.specs.Header.{pastChecks, failedCheck}
 use Rattle.packet.specs.Walk.{Stepped, field, end, refused, stepOf}
 
+abbrev pub readerAt : RefT (List ℕ) → ℕ → FieldReader
+readerAt packet at = record { packet = packet; at = at }
+
 -- ---- making one
 
 -- 1 or 2, or 0 past both; it "returns its number only"
@@ -22,7 +25,7 @@ startOf p at = pastChecks (λ (number : ℕ). 0) p at
 
 abbrev pub madeOf : RefT (List ℕ) → ℕ → Made
 madeOf packet at =
-    record { reader = record { packet = packet; at = startOf (now packet) at }; refusal = refusalOf (now packet) }
+    record { reader = readerAt packet (startOf (now packet) at); refusal = refusalOf (now packet) }
 
 -- ---- a step
 
@@ -38,7 +41,7 @@ movedTo (refused number place) at = at
 
 -- the same packet, and the place moved
 abbrev pub readerAfter : FieldReader → FieldReader
-readerAfter r = record { packet = r .packet; at = movedTo (stepBy r) (r .at) }
+readerAfter r = readerAt (r .packet) (movedTo (stepBy r) (r .at))
 
 -- ---- both: a reader is made at a place and steps once
 

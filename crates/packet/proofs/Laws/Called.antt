@@ -22,7 +22,7 @@ use denote.Triple.Spec.{tripleOf}
 use denote.Triple.Statement.{Contract, Triple}
 
 module _ {M : Type 1} (𝓤 : URA M) (H : Heap 𝓤) (A : Atoms 𝓤) (T : Ended) (c : Clauses 𝓤 T) where
-  abbrev pub Callee : Contract 𝓤
+  abbrev Callee : Contract 𝓤
   Callee = tripleOf 𝓤 H A (T .signature) (closing 𝓤 H A T c)
 
   -- of a call: its result's values, their type, and the tokens of its lifetimes

@@ -15,13 +15,17 @@ use Rattle.packet.specs.Kind.{kindOf}
 use Rattle.packet.specs.Reading.{refused, readAs, readBy}
 use Rattle.packet.specs.Claims.{Headed}
 
+-- of two checks the first that fails, 1 or 2, or 0
+abbrev failed : Bool → Bool → ℕ
+failed size head = pick size (pick head 0 2) 1
+
 -- the number decides what follows
 pub pastChecks-by {ℓ} : {A : Type ℓ} (refuse : ℕ → A) (p : List ℕ) (next : A) → pastChecks refuse p next ≡ pick (eqb (failedCheck p) 0) next (refuse (failedCheck p))
 unfolding failedCheck
 pastChecks-by refuse p next = by-each (sizeRight p) (headRight p)
   where
     by-each : (size head : Bool)
-        → pick size (pick head next (refuse 2)) (refuse 1) ≡ pick (eqb (pick size (pick head 0 2) 1) 0) next (refuse (pick size (pick head 0 2) 1))
+        → pick size (pick head next (refuse 2)) (refuse 1) ≡ pick (eqb (failed size head) 0) next (refuse (failed size head))
     by-each true true = refl
     by-each true false = refl
     by-each false head = refl
@@ -50,9 +54,6 @@ pub failedCheck-exactly : (p : List ℕ)
 unfolding failedCheck
 failedCheck-exactly p = by-each (sizeRight p) (headRight p)
   where
-    failed : Bool → Bool → ℕ
-    failed size head = pick size (pick head 0 2) 1
-
     by-each : (size head : Bool)
         → ((failed size head ≡ 0) ↔ (T size × T head)) × ((failed size head ≡ 1) ↔ (size ≡ false)) × ((failed size head ≡ 2) ↔ (T size × (head ≡ false)))
     by-each true true =

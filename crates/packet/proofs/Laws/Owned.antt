@@ -22,7 +22,7 @@ use denote.Slice.{sliceVal, ShrSlice, shr-slice-copy}
 use denote.Steps.{owned, nothing}
 use denote.Struct.Laws as LL
 use denote.Struct.Rest.{own-open, own-shut}
-use Rattle.packet.specs.declared.reader.FieldReader.{FieldReader}
+use Rattle.packet.specs.Reader.{readerAt}
 use Rattle.packet.proofs.reader.FieldReader as T
 use Rattle.packet.proofs.reader.FieldReader.Laws as T′
 
@@ -45,20 +45,17 @@ module _ (κ : Lft) (s : RefT (List ℕ)) where
   abbrev pub Passed : ℕ → Fml
   Passed n = owns (ShrSlice (named 0) κ u8 ∷ usize ∷ []) (s, (n, tt)) (packetVal ∷ [], (vint w64 n ∷ [], tt))
 
-  abbrev pub readerAt : ℕ → FieldReader
-  readerAt n = record { packet = s; at = n }
-
   -- what a reader owns
   abbrev pub Reader : ℕ → Fml
-  Reader n = T.the-row (α κ) .own (readerAt n) (T′.lowered (readerAt n) ∷ [])
+  Reader n = T.the-row (α κ) .own (readerAt s n) (T′.lowered (readerAt s n) ∷ [])
 
   -- and what it owns that is passed
   abbrev pub PassedReader : ℕ → Fml
-  PassedReader n = owns (T.the-row (α κ) ∷ []) (readerAt n, tt) (T′.lowered (readerAt n) ∷ [], tt)
+  PassedReader n = owns (T.the-row (α κ) ∷ []) (readerAt s n, tt) (T′.lowered (readerAt s n) ∷ [], tt)
 
   -- a reader's machine value, whatever MIR calls the lifetime
-  pub reader-is : (a : NamedLft) (n : ℕ) → Is (ShrSlice (named 0) κ u8) s (packetVal ∷ []) → n < 2 ^ 64 → Is (T.the-row a) (readerAt n) (T′.lowered (readerAt n) ∷ [])
-  reader-is a n p fits = LL.owes (T.the-type a) (T′.the-laws a) (readerAt n) (p, ((refl, fits), tt))
+  pub reader-is : (a : NamedLft) (n : ℕ) → Is (ShrSlice (named 0) κ u8) s (packetVal ∷ []) → n < 2 ^ 64 → Is (T.the-row a) (readerAt s n) (T′.lowered (readerAt s n) ∷ [])
+  reader-is a n p fits = LL.owes (T.the-type a) (T′.the-laws a) (readerAt s n) (p, ((refl, fits), tt))
 
   module _ {M : Type 1} (𝓤 : URA M) (H : Heap 𝓤) (A : Atoms 𝓤) (W : Given 𝓤 H A) where
     pub packet-twice : ent 𝓤 (sem 𝓤 H A Packet) (sep 𝓤 (sem 𝓤 H A Packet) (sem 𝓤 H A Packet))
@@ -78,7 +75,7 @@ module _ (κ : Lft) (s : RefT (List ℕ)) where
       pub passed-reader-packet : ent 𝓤 (sem 𝓤 H A (PassedReader n)) (sem 𝓤 H A Packet)
       passed-reader-packet =
           qed W (‵ (PassedReader n) ∷ []) ∵ fsplit ! $ move ! (1 ∷ []) $ drop ! $
-          use1 W (given (T′.lowered (readerAt n) ∷ [] ≡ T′.lowered (readerAt n) ∷ []) (‵ (Passed n))) (own-open 𝓤 H A W (T.the-type (α κ)) (T′.the-laws (α κ)) (s, (n, tt)) (T′.lowered (readerAt n))) $ learn ! (λ _. by ! passed-packet)
+          use1 W (given (T′.lowered (readerAt s n) ∷ [] ≡ T′.lowered (readerAt s n) ∷ []) (‵ (Passed n))) (own-open 𝓤 H A W (T.the-type (α κ)) (T′.the-laws (α κ)) (s, (n, tt)) (T′.lowered (readerAt s n))) $ learn ! (λ _. by ! passed-packet)
 
       pub packet-passed-reader : n < 2 ^ 64 → ent 𝓤 (sem 𝓤 H A Packet) (sem 𝓤 H A (PassedReader n))
       packet-passed-reader fits = qed W (‵ Packet ∷ []) ∵ use1 W (‵ (Reader n)) (packet-reader fits) $ nothing ! $ move ! (1 ∷ 0 ∷ []) $ fjoin ! $ done !

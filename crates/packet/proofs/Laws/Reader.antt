@@ -22,7 +22,7 @@ use Rattle.packet.specs.Header.{firstField, failedCheck}
 use Rattle.packet.specs.Walk.{Stepped, field, refused, fieldRight, fieldAt, nextAt, fieldsFrom, fieldsOf, stopFrom, whole, stepOf}
 use Rattle.packet.specs.Message.{stepSaid}
 use Rattle.packet.specs.Apart.{step-apart}
-use Rattle.packet.specs.Reader.{startOf, movedTo, readerAfter, fieldIn}
+use Rattle.packet.specs.Reader.{readerAt, startOf, movedTo, readerAfter, fieldIn}
 use Rattle.packet.specs.Inner.{refusedOr}
 use Rattle.packet.specs.Promises.{reader-at≡, next-field≡}
 use Rattle.packet.specs.Claims.{Headed, HandsOut, Stays, refused4, MadeExactly, NothingBeside, StepsAsTheWalk, SaidByAReader}
@@ -45,11 +45,13 @@ fieldIn-step packet at m h e f =
 
 -- ---- a step at a place that a walk from 12 comes to
 
-on-first : (p : List ℕ) → Headed p → Placed p firstField
-on-first p h = record { least = omega arith; word = refl; inside = sized p (h .0) .least }
+-- 12 is one
+placed-first : (p : List ℕ) → Headed p → Placed p firstField
+placed-first p h = record { least = omega arith; word = refl; inside = sized p (h .0) .least }
 
-on-next : (p : List ℕ) (at : ℕ) → Placed p at → T (fieldRight p at) → Placed p (nextAt p at)
-on-next p at o t =
+-- and so is the next, behind a right field
+placed-next : (p : List ℕ) (at : ℕ) → Placed p at → T (fieldRight p at) → Placed p (nextAt p at)
+placed-next p at o t =
     record {
       least = omega (arith, o .least, next-after p at);
       word = next-word p at (o .word);
@@ -89,7 +91,7 @@ module _ (packet : RefT (List ℕ)) where
   p = now packet
 
   abbrev on : ℕ → FieldReader
-  on at = record { packet = packet; at = at }
+  on = readerAt packet
 
   -- a reader stays where no right field is, ..
   stays : (at : ℕ) → Placed p at → fieldRight p at ≡ false → Stays (on at) (restOf p at)
@@ -117,7 +119,7 @@ module _ (packet : RefT (List ℕ)) where
       walk-ind p (λ at. Placed p at → HandsOut (on at) (fieldsFrom p at) (on (stopFrom p at)) × Stays (on (stopFrom p at)) (restOf p (stopFrom p at)))
       (λ at w o. rw (fieldsFrom-wrong p at w, stopFrom-wrong p at w) (refl, stays at o w))
       (λ at t r o.
-      let rest = r (on-next p at o t) in
+      let rest = r (placed-next p at o t) in
       rw (fieldsFrom-right p at t, stopFrom-right p at t) ((record { reader = on (nextAt p at); said = FieldStep (fieldAt p at) }, (sym (over at o t), sym (step-field p at o t)), refl, rest .0), rest .1))
 
   -- and nothing else
@@ -132,7 +134,7 @@ module _ (packet : RefT (List ℕ)) where
       ⊎-elim
       (λ t.
       let first : f ≡ fieldAt p at = cc (met, step-field p at o t) in
-      let rest = hands-only fs s said (nextAt p at) (on-next p at o t) (rw (x .1 .0, over at o t) at (x .3)) st in
+      let rest = hands-only fs s said (nextAt p at) (placed-next p at o t) (rw (x .1 .0, over at o t) at (x .3)) st in
       rw (fieldsFrom-right p at t, stopFrom-right p at t) (ap₂ (λ (y : Field) (ys : List Field). y ∷ ys) first (rest .0), rest .1, rest .2))
       (λ w. absurd (rest-none (eqb at (length p)) f (step-rest p at o w ∙ sym met)))
       (decide (fieldRight p at))
@@ -147,13 +149,13 @@ unfolding startOf
 nothing-beside packet at m e h =
     let p = now packet in
     let misplaced = step-misplaced p 0 (λ o. omega arith) in
-    rw (e, pastChecks-by (λ (number : ℕ). 0) p at, ne-eqb (failedCheck p) 0 (rw e at h)) (ap (λ (x : Stepped). on packet (movedTo x 0)) (sym misplaced), sym misplaced)
+    rw (e, pastChecks-by (λ (number : ℕ). 0) p at, ne-eqb (failedCheck p) 0 (rw e at h)) (ap (λ (x : Stepped). readerAt packet (movedTo x 0)) (sym misplaced), sym misplaced)
 
 pub steps-as-the-walk : StepsAsTheWalk
 unfolding startOf fieldsOf whole
 steps-as-the-walk packet m fs s said h e =
-    let o = on-first (now packet) h in
-    let reader : m .reader ≡ on packet firstField = rw (e, pastChecks-headed (λ (number : ℕ). 0) (now packet) firstField h) in (
+    let o = placed-first (now packet) h in
+    let reader : m .reader ≡ readerAt packet firstField = rw (e, pastChecks-headed (λ (number : ℕ). 0) (now packet) firstField h) in (
       (λ x. hands-only packet fs s said firstField o (rw reader at (x .0)) (x .1)),
       λ x. rw (x .0, x .1, x .2, reader) (hands packet firstField o),
     )

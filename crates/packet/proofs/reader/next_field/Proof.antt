@@ -37,11 +37,11 @@ use denote.Triple.Walked.{says, Stays, stay-none, walkOf, goes-none, ends-at, wa
 use denote.Exit.{yes}
 use Rattle.packet.specs.Walk.{stepOf}
 use Rattle.packet.specs.Message.{stepSaid}
-use Rattle.packet.specs.Reader.{movedTo}
+use Rattle.packet.specs.Reader.{readerAt, movedTo}
 use Rattle.packet.specs.declared.reader.Handed.{Handed}
 use Rattle.packet.specs.declared.reader.Moved.{Moved}
 use Rattle.packet.proofs.Laws.Called.{calls}
-use Rattle.packet.proofs.Laws.Owned.{α, αᵉ, packetVal, Packet, readerAt, Reader, PassedReader, reader-is, packet-twice, packet-reader, passed-reader-packet, packet-passed-reader, hands-on}
+use Rattle.packet.proofs.Laws.Owned.{α, αᵉ, packetVal, Packet, Reader, PassedReader, reader-is, packet-twice, packet-reader, passed-reader-packet, packet-passed-reader, hands-on}
 use Rattle.packet.proofs.field.Step as E
 use Rattle.packet.proofs.field.Step.Laws as E′
 use Rattle.packet.proofs.reader.FieldReader as T
@@ -73,13 +73,13 @@ module _ {M : Type 1} (𝓤 : URA M) (H : Heap 𝓤) (A : Atoms 𝓤) (mem : Mem
 
 module _ {M : Type 1} (𝓤 : URA M) (H : Heap 𝓤) (A : Atoms 𝓤) (W : Given 𝓤 H A) (mem : Memory → SProp 𝓤) (run : Routine → Fun 𝓤) (κ : Lft) (q : Share) (s : RefT (List ℕ)) (n : ℕ) (p : Is (ShrSlice (named 0) κ u8) s (packetVal κ s ∷ [])) (fits : n < 2 ^ 64) where
   abbrev mach : Val
-  mach = T′.lowered (readerAt κ s n)
+  mach = T′.lowered (readerAt s n)
 
   abbrev Token : SProp 𝓤
   Token = alive 𝓤 H A next.signature (κ, tt) (q, tt)
 
   abbrev Post : Val → SProp 𝓤
-  Post = walkOf 𝓤 H A next.ended stayed (next.clauses 𝓤 H A mem run) .post (((κ, tt), (q, tt), tt, (readerAt κ s n, tt), (mach ∷ [], tt)), tt)
+  Post = walkOf 𝓤 H A next.ended stayed (next.clauses 𝓤 H A mem run) .post (((κ, tt), (q, tt), tt, (readerAt s n, tt), (mach ∷ [], tt)), tt)
 
   abbrev to : StepFrom 𝓤 H A mem run .Ghost
   to = (((κ, tt), (q, tt), tt, (s, (n, tt)), (packetVal κ s ∷ [], (vint w64 n ∷ [], tt))), tt)
@@ -88,24 +88,24 @@ module _ {M : Type 1} (𝓤 : URA M) (H : Heap 𝓤) (A : Atoms 𝓤) (W : Given
   Found r = (r .at ≡ movedTo (stepOf (now s) n) n) × (stepSaid (r .said) ≡ stepOf (now s) n)
 
   abbrev handed : Moved → Handed
-  handed r = record { reader = readerAt κ s (r .at); said = r .said }
+  handed r = record { reader = readerAt s (r .at); said = r .said }
 
   module _ (r : Moved) (e : Found r) (is : Is S.the-row r (LL.vals S.the-type S′.the-laws r)) where
     exits : ent 𝓤 (⋆ 𝓤 H A (raw Token ∷ ‵ (Packet κ s) ∷ [])) (Post (LL.val (O.the-type (α κ)) (O′.the-laws (α κ)) (handed r)))
     exits =
         qed W (raw Token ∷ ‵ (Packet κ s) ∷ []) ∵
-        suffices ! _ (ends-at 𝓤 H A next.ended stayed (next.clauses 𝓤 H A mem run) W (((κ, tt), (q, tt), tt, (readerAt κ s n, tt), (mach ∷ [], tt)), tt) (LL.val (O.the-type (α κ)) (O′.the-laws (α κ)) (handed r)) (handed r) (tt, tt) (tt, tt)) $
-        says ! (ap (readerAt κ s) (e .0), e .1) $ frame ! $ use1 W (‵ (Packet κ s) ⊛ ‵ (Packet κ s)) (packet-twice κ s 𝓤 H A W) $ split ! $ use1 W (‵ (PassedReader κ s n)) (packet-passed-reader κ s 𝓤 H A W n fits) $ frame ! $
+        suffices ! _ (ends-at 𝓤 H A next.ended stayed (next.clauses 𝓤 H A mem run) W (((κ, tt), (q, tt), tt, (readerAt s n, tt), (mach ∷ [], tt)), tt) (LL.val (O.the-type (α κ)) (O′.the-laws (α κ)) (handed r)) (handed r) (tt, tt) (tt, tt)) $
+        says ! (ap (readerAt s) (e .0), e .1) $ frame ! $ use1 W (‵ (Packet κ s) ⊛ ‵ (Packet κ s)) (packet-twice κ s 𝓤 H A W) $ split ! $ use1 W (‵ (PassedReader κ s n)) (packet-passed-reader κ s 𝓤 H A W n fits) $ frame ! $
         use1 W (‵ (Reader κ s (r .at))) (packet-reader κ s 𝓤 H A W (r .at) (LL.owed S.the-type S′.the-laws r _ is .0 .1)) $
         nothing ! $ owned ! E.the-row (Is E.the-row) (EL.makes E.the-type E′.the-plain 𝓤 H A) (r .said) _ (LL.owed S.the-type S′.the-laws r _ is .1 .0) $ fjoin ! $ move ! (1 ∷ 0 ∷ []) $ fjoin ! $
-        by ! (own-shut 𝓤 H A W (O.the-type (α κ)) (O′.the-laws (α κ)) (readerAt κ s (r .at), (r .said, tt)))
+        by ! (own-shut 𝓤 H A W (O.the-type (α κ)) (O′.the-laws (α κ)) (readerAt s (r .at), (r .said, tt)))
 
   module _ (C : Calls 𝓤 H) (Λ : Loops 𝓤 H) (fm : FmC 𝓤 H (W .laws) C) (known : Triple 𝓤 (C #step-from) (StepFrom 𝓤 H A mem run)) where
-    walk : ent 𝓤 (onEntry 𝓤 H A next.signature (κ, tt) (q, tt) (readerAt κ s n, tt) (mach ∷ [], tt)) (WpFn 𝓤 H C Λ code.function (mach ∷ []) Post)
+    walk : ent 𝓤 (onEntry 𝓤 H A next.signature (κ, tt) (q, tt) (readerAt s n, tt) (mach ∷ [], tt)) (WpFn 𝓤 H C Λ code.function (mach ∷ []) Post)
     walk =
-        qed W (raw (onEntry 𝓤 H A next.signature (κ, tt) (q, tt) (readerAt κ s n, tt) (mach ∷ [], tt)) ∷ []) ∵ use1 W (raw Token ⊛ ‵ (Packet κ s)) (monoR 𝓤 Token (passed-reader-packet κ s 𝓤 H A W n)) $ enter ! C Λ code.function (mach ∷ []) _ $
+        qed W (raw (onEntry 𝓤 H A next.signature (κ, tt) (q, tt) (readerAt s n, tt) (mach ∷ [], tt)) ∷ []) ∵ use1 W (raw Token ⊛ ‵ (Packet κ s)) (monoR 𝓤 Token (passed-reader-packet κ s 𝓤 H A W n)) $ enter ! C Λ code.function (mach ∷ []) _ $
         alloc1 ! (λ l₀. alloc1 ! (λ l₁. alloc1 ! (λ l₂. alloc1 ! (λ l₃. alloc1 ! (λ l₄. alloc1 ! (λ l₅. alloc1 ! (λ l₆. alloc0 ! $ params1 ! $
-        pass1 ! (init ! 10 refl (LL.lawful (T.the-type (α κ)) (T′.the-laws (α κ)) 𝓤 H A W .typed (readerAt κ s n) _ (reader-is κ s (α κ) n p fits) .0)) $ pass0 ! $
+        pass1 ! (init ! 10 refl (LL.lawful (T.the-type (α κ)) (T′.the-laws (α κ)) 𝓤 H A W .typed (readerAt s n) _ (reader-is κ s (α κ) n p fits) .0)) $ pass0 ! $
         assigns ! (of-opd ! (load ! (from ! (fld ! refl (stop !))) (look-in ! 10 (sub ! 0 refl (whole !))))) (from ! (stop !)) (init ! 6 refl (shr-slice-lawful 𝓤 H A W erased κ u8 .typed s _ p .0)) $
         assigns ! (of-opd ! (load ! (from ! (fld ! refl (stop !))) (look-in ! 10 (sub ! 1 refl (whole !))))) (from ! (stop !)) (init ! 4 refl (tt, record { fits = fits })) $
         move ! (14 ∷ []) $ use1 W (raw (StepFrom 𝓤 H A mem run .pre to) ⊛ ‵ (Packet κ s)) (hands-on κ s 𝓤 H A W n fits Token) $ split ! $
@@ -115,7 +115,7 @@ module _ {M : Type 1} (𝓤 : URA M) (H : Heap 𝓤) (A : Atoms 𝓤) (W : Given
         land ! (from ! (stop !)) (init ! 10 refl (LL.lawful S.the-type S′.the-laws 𝓤 H A W .typed r _ is .0)) $
         assigns ! (of-opd ! (load ! (from ! (fld ! refl (stop !))) (look-in ! 12 (sub ! 0 refl (whole !))))) (from ! (stop !)) (init ! 4 refl (shr-slice-lawful 𝓤 H A W erased κ u8 .typed s _ p .0)) $
         assigns ! (agg ! (and-then ! (load ! (from ! (stop !)) (look ! 4 refl)) (and-then ! (load ! (from ! (fld ! refl (stop !))) (look-in ! 10 (sub ! 0 refl (whole !)))) (no-more !)))) (from ! (stop !))
-        (init ! 2 refl (LL.lawful (T.the-type (αᵉ κ)) (T′.the-laws (αᵉ κ)) 𝓤 H A W .typed (readerAt κ s (r .at)) _ (reader-is κ s (αᵉ κ) (r .at) p (LL.owed S.the-type S′.the-laws r _ is .0 .1)) .0)) $
+        (init ! 2 refl (LL.lawful (T.the-type (αᵉ κ)) (T′.the-laws (αᵉ κ)) 𝓤 H A W .typed (readerAt s (r .at)) _ (reader-is κ s (αᵉ κ) (r .at) p (LL.owed S.the-type S′.the-laws r _ is .0 .1)) .0)) $
         assigns ! (agg ! (and-then ! (load ! (from ! (stop !)) (look ! 2 refl)) (and-then ! (load ! (from ! (fld ! refl (stop !))) (look-in ! 10 (sub ! 1 refl (whole !)))) (no-more !)))) (from ! (stop !))
         (init ! 14 refl (LL.lawful (O.the-type (α κ)) (O′.the-laws (α κ)) 𝓤 H A W .typed (handed r) _ (LL.owes (O.the-type (α κ)) (O′.the-laws (α κ)) (handed r) (reader-is κ s (α κ) (r .at) p (LL.owed S.the-type S′.the-laws r _ is .0 .1), (LL.owed S.the-type S′.the-laws r _ is .1 .0, tt))) .0)) $
         returns ! (look ! 14 refl) $ forget ! 2 refl $ forget ! 4 refl $ forget ! 6 refl $ forget ! 8 refl $ forget ! 10 refl $ forget ! 12 refl $ forget ! 14 refl $

@@ -35,11 +35,11 @@ use denote.Triple.Walked.{says, Stays, stay-none, stay-none-slice, walkOf, goes-
 use denote.Exit.{yes}
 use Rattle.sheet.proofs.Refusal as Rf
 use Rattle.sheet.proofs.Refusal.Laws as Rf′
-use Rattle.packet.specs.Reader.{refusalOf, startOf}
+use Rattle.packet.specs.Reader.{readerAt, refusalOf, startOf}
 use Rattle.packet.specs.declared.reader.Made.{Made}
 use Rattle.packet.specs.declared.reader.Start.{Start}
 use Rattle.packet.proofs.Laws.Called.{calls}
-use Rattle.packet.proofs.Laws.Owned.{α, αᵉ, packetVal, Packet, Passed, readerAt, Reader, reader-is, packet-twice, passed-packet, packet-passed, packet-reader, hands-on}
+use Rattle.packet.proofs.Laws.Owned.{α, αᵉ, packetVal, Packet, Passed, Reader, reader-is, packet-twice, passed-packet, packet-passed, packet-reader, hands-on}
 use Rattle.packet.proofs.reader.FieldReader as T
 use Rattle.packet.proofs.reader.FieldReader.Laws as T′
 use Rattle.packet.proofs.reader.Made as O
@@ -80,7 +80,7 @@ module _ {M : Type 1} (𝓤 : URA M) (H : Heap 𝓤) (A : Atoms 𝓤) (W : Given
   Found r = r ≡ record { at = startOf (now s) n; refusal = refusalOf (now s) }
 
   abbrev made : Start → Made
-  made r = record { reader = readerAt κ s (r .at); refusal = r .refusal }
+  made r = record { reader = readerAt s (r .at); refusal = r .refusal }
 
   module _ (r : Start) (e : Found r) (is : Is S.the-row r (LL.vals S.the-type S′.the-laws r)) where
     exits : ent 𝓤 (⋆ 𝓤 H A (raw Token ∷ ‵ (Packet κ s) ∷ [])) (Post (LL.val (O.the-type (α κ)) (O′.the-laws (α κ)) (made r)))
@@ -90,7 +90,7 @@ module _ {M : Type 1} (𝓤 : URA M) (H : Heap 𝓤) (A : Atoms 𝓤) (W : Given
         says ! (ap made e) $ frame ! $ use1 W (‵ (Packet κ s) ⊛ ‵ (Packet κ s)) (packet-twice κ s 𝓤 H A W) $ split ! $ use1 W (‵ (Passed κ s n)) (packet-passed κ s 𝓤 H A W n fits) $ frame ! $
         use1 W (‵ (Reader κ s (r .at))) (packet-reader κ s 𝓤 H A W (r .at) (LL.owed S.the-type S′.the-laws r _ is .0 .1)) $
         nothing ! $ owned ! Rf.the-row (Is Rf.the-row) (LL.makes Rf.the-type Rf′.the-plain 𝓤 H A) (r .refusal) _ (LL.owed S.the-type S′.the-laws r _ is .1 .0) $ fjoin ! $ move ! (1 ∷ 0 ∷ []) $ fjoin ! $
-        by ! (own-shut 𝓤 H A W (O.the-type (α κ)) (O′.the-laws (α κ)) (readerAt κ s (r .at), (r .refusal, tt)))
+        by ! (own-shut 𝓤 H A W (O.the-type (α κ)) (O′.the-laws (α κ)) (readerAt s (r .at), (r .refusal, tt)))
 
   module _ (C : Calls 𝓤 H) (Λ : Loops 𝓤 H) (fm : FmC 𝓤 H (W .laws) C) (known : Triple 𝓤 (C #start-at) (StartAt 𝓤 H A mem run)) where
     walk : Is (ShrSlice (named 0) κ u8) s (packetVal κ s ∷ []) → ent 𝓤 (onEntry 𝓤 H A reader-at.signature (κ, tt) (q, tt) (s, (n, tt)) at) (WpFn 𝓤 H C Λ code.function (packetVal κ s ∷ vint w64 n ∷ []) Post)
@@ -104,7 +104,7 @@ module _ {M : Type 1} (𝓤 : URA M) (H : Heap 𝓤) (A : Atoms 𝓤) (W : Given
         -- [the token; what the packet owns; room for _4; …; room for _3; …; _2; …; _1; …; room for _0; …]
         land ! (from ! (stop !)) (init ! 4 refl (LL.lawful S.the-type S′.the-laws 𝓤 H A W .typed r _ is .0)) $
         assigns ! (agg ! (and-then ! (load ! (from ! (stop !)) (look ! 8 refl)) (and-then ! (load ! (from ! (fld ! refl (stop !))) (look-in ! 4 (sub ! 0 refl (whole !)))) (no-more !)))) (from ! (stop !))
-        (init ! 2 refl (LL.lawful (T.the-type (αᵉ κ)) (T′.the-laws (αᵉ κ)) 𝓤 H A W .typed (readerAt κ s (r .at)) _ (reader-is κ s (αᵉ κ) (r .at) p (LL.owed S.the-type S′.the-laws r _ is .0 .1)) .0)) $
+        (init ! 2 refl (LL.lawful (T.the-type (αᵉ κ)) (T′.the-laws (αᵉ κ)) 𝓤 H A W .typed (readerAt s (r .at)) _ (reader-is κ s (αᵉ κ) (r .at) p (LL.owed S.the-type S′.the-laws r _ is .0 .1)) .0)) $
         assigns ! (agg ! (and-then ! (load ! (from ! (stop !)) (look ! 2 refl)) (and-then ! (load ! (from ! (fld ! refl (stop !))) (look-in ! 4 (sub ! 1 refl (whole !)))) (no-more !)))) (from ! (stop !))
         (init ! 10 refl (LL.lawful (O.the-type (α κ)) (O′.the-laws (α κ)) 𝓤 H A W .typed (made r) _ (LL.owes (O.the-type (α κ)) (O′.the-laws (α κ)) (made r) (reader-is κ s (α κ) (r .at) p (LL.owed S.the-type S′.the-laws r _ is .0 .1), (LL.owed S.the-type S′.the-laws r _ is .1 .0, tt))) .0)) $
         returns ! (look ! 10 refl) $ forget ! 2 refl $ forget ! 4 refl $ forget ! 6 refl $ forget ! 8 refl $ forget ! 10 refl $
