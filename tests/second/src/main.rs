@@ -8,6 +8,7 @@
 //!     second controller compare SEED ROUNDS < ANSWERS
 //!     second face make SEED ROUNDS > CASES
 //!     second face compare SEED ROUNDS < ANSWERS
+//!     second face time CALL INPUTS ROUNDS
 //!     second look < INPUT
 //!     second look make SEED COUNT DIR
 //!     second sample cases > crates/answers/stdin
@@ -49,7 +50,7 @@ use std::process::ExitCode;
 use wire::Case;
 
 const USAGE: &str = "second [reception|controller|face] make SEED ROUNDS | \
-    [reception|controller|face] compare SEED ROUNDS | look | look make SEED COUNT DIR | \
+    [reception|controller|face] compare SEED ROUNDS | face time CALL INPUTS ROUNDS | look | look make SEED COUNT DIR | \
     sample cases | sample answers | sample bench | sample every";
 
 /// Every case about sheets and packets that is thought of, then so many rounds of cases by chance.
@@ -105,6 +106,7 @@ fn run(words: &[&str]) -> Option<io::Result<bool>> {
         ["face", "compare", seed, rounds] => {
             Some(face::compare(seed.parse().ok()?, rounds.parse().ok()?, io::stdin().lock()))
         }
+        ["face", "time", call, inputs, rounds] => Some(face::time(call, Path::new(inputs), rounds.parse().ok()?)),
         ["look"] => Some(look::run().map(|()| true)),
         ["look", "make", seed, count, dir] => Some(look::make(seed.parse().ok()?, count.parse().ok()?, Path::new(dir))),
         ["sample", "cases"] => Some(print_cases(sample::octets().into_iter())),

@@ -13,6 +13,8 @@ mod others;
 mod rows;
 mod shown;
 mod tally;
+mod timing;
 
 pub use cases::make;
 pub use compare::compare;
+pub use timing::time;
