@@ -6,8 +6,8 @@ use super::number::part;
 use super::question::counted;
 use super::reply::Reply;
 use super::value;
-use controller::Offered;
-use controller::Sending;
+use incoming::Offered;
+use outgoing::Sending;
 use reception::Answer;
 use reception::Event;
 use reception::What;
@@ -56,7 +56,7 @@ fn offered_row(offered: Offered) -> [u32; 3] {
 // the value, each behind its count, two octets.
 pub fn event(reply: Reply, sheet: Sheet, body: &[u8], rest: &[u8]) -> Reply {
     let users = value::users_in(body);
-    let offered = controller::event_of(sheet, users, part(rest, 2, counted(rest)));
+    let offered = incoming::event_of(sheet, users, part(rest, 2, counted(rest)));
     reply.numbers(&offered_row(offered))
 }
 
@@ -105,7 +105,7 @@ fn sent(body: &[u8], room: usize) -> Reply
     let sheet = value::sheet_in(body);
     let users = value::users_in(body);
     let mut buffer = buffer::filled();
-    let sending = controller::packet_of(sheet, users, stream, answer, &mut buffer[0..room]);
+    let sending = outgoing::packet_of(sheet, users, stream, answer, &mut buffer[0..room]);
     put_sending(sending, &buffer, room)
 }
 

@@ -20,11 +20,11 @@ fn seat(found: Found) -> Reply {
 
 // 1: what a text reads to, and its User IDs: a value, the octets used (eight), the refusal's number and place (four each).
 pub fn read(text: &[u8]) -> Reply {
-    let reading = sheet::read(text);
+    let reading = sheet_text::read(text);
     let read = reading.sheet;
     let refusal = reading.refusal;
     let reply = Reply::empty().numbers(&sheet::numbers::numbers_of(read));
-    value::put_users(reply, &sheet::users(text)).result(reading.used, refusal)
+    value::put_users(reply, &sheet_text::users(text)).result(reading.used, refusal)
 }
 
 // 2: whether some sheet reads to a value's numbers; and to the whole value.
@@ -84,8 +84,8 @@ pub fn field(reply: Reply, body: &[u8], rest: &[u8]) -> Reply {
     let low = octets::u32_at(rest, 4) as usize;
     let place = high * 4294967296 + low;
     let octets = part(body, 2, counted(body));
-    let stands = step::put_step(reply, packet::field::field_at(octets, place));
-    step::put_step(stands, packet::reader::field_in(octets, place))
+    let stands = step::put_step(reply, fields::field::field_at(octets, place));
+    step::put_step(stands, fields::reader::field_in(octets, place))
 }
 
 // 8: what is written of a message under the numbers of a value, into a buffer that was filled. Behind the numbers stand the message,

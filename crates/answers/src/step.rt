@@ -1,7 +1,7 @@
 // What a field step says, among the octets of an answer: five numbers of eight octets. Of a field they are 1, its place,
 // ID and length, and the next place; of the end 2 and zeros; of a refusal 3, its number, its place, and zeros.
 use super::reply::Reply;
-use packet::field::Step;
+use fields::field::Step;
 
 // How many octets that takes.
 pub const LENGTH: usize = 40;

@@ -11,23 +11,23 @@ use Rattle.octets.specs.Choice.{All}
 use Rattle.octets.specs.Text.{ascii}
 use Rattle.octets.specs.Hex.{hexOctets}
 use Rattle.sheet.specs.declared.Sheet.{Sheet}
-use Rattle.sheet.specs.Line.{lf}
-use Rattle.sheet.specs.Value as sheet
+use Rattle.sheet_text.specs.Reading as sheet
+use Rattle.sheet_text.specs.Line.{lf}
 use Rattle.packet.specs.Reading as packet
-use Rattle.writing.specs.Meaning.{Value, nothing, numeral, spelt, Meaning, meaning}
+use Rattle.plan.specs.Meaning.{Value, nothing, numeral, spelt, Meaning, meaning}
 use Rattle.writing.specs.Writing.{made, writeOf}
-use Rattle.reception.specs.declared.Phase.{Phase}
-use Rattle.reception.specs.declared.Phase.the-variants.{Free, Idle, Watched, Ending}
-use Rattle.reception.specs.declared.Record.{Record}
-use Rattle.reception.specs.declared.Event.{Event}
-use Rattle.reception.specs.declared.What.{What}
-use Rattle.reception.specs.declared.What.the-variants.{Request, End, T11 as T11Expired}
-use Rattle.reception.specs.Answer.{Done, granted, rejected, ended, endRequested, discarded, Sent, Timer, T3, T5, T6, T11, Reply, reply, timers}
-use Rattle.reception.specs.Table.{Answered}
+use Rattle.streams.specs.declared.Phase.{Phase}
+use Rattle.streams.specs.declared.Phase.the-variants.{Free, Idle, Watched, Ending}
+use Rattle.streams.specs.declared.Record.{Record}
+use Rattle.streams.specs.declared.Event.{Event}
+use Rattle.streams.specs.declared.What.{What}
+use Rattle.streams.specs.declared.What.the-variants.{Request, End, T11 as T11Expired}
+use Rattle.streams.specs.Answer.{Done, granted, rejected, ended, endRequested, discarded, Sent, Timer, T3, T5, T6, T11, Reply, reply, timers}
+use Rattle.streams.specs.Table.{Answered}
 use Rattle.reception.specs.Steps.{Said, gives, refuses, leaving, Try, readOf, attemptOf, workOf, storeOf}
 use Rattle.reception.specs.Schedule.{Routine, packetRoutine, timerRoutine, Step, reads, worksOut, stores, WorkedOut, State, after, start, run, taken}
-use Rattle.controller.specs.Event.{eventOf}
-use Rattle.controller.specs.Sending.{sendingOf}
+use Rattle.incoming.specs.Event.{eventOf}
+use Rattle.outgoing.specs.Sending.{sendingOf}
 use Rattle.look.specs.Look.{lookOf}
 
 -- ---- sheet S

@@ -1,48 +1,27 @@
 -- What each call of the face says: the definition of the call below it, on what the rows stand for. What no value stands for is refused as what it is: a
 -- sheet with 12 line 0, before all else; a message with 5; a record, an event, an attempt, an answer or a stream with 9. A slice that is too short for what
 -- comes back is 11, last of all (docs/DECISIONS.md, 71). Assumes nothing.
-use Prim.Native.Nat.{ℕ, _+_, _*_, _^_}
-use mathlib.Core.Bool.{Bool}
+use Prim.Native.Nat.{ℕ, _^_}
 use mathlib.Core.List.{List, [], _∷_}
 use mathlib.Core.Option.{Option, none, some}
 use lib.Dec.{eqb, ltb}
 use Rattle.octets.specs.Choice.{pick}
-use Rattle.octets.specs.Buffer.{over}
-use Rattle.sheet.specs.declared.Reading.{Reading}
 use Rattle.sheet.specs.Value.{sheetIn, validAlone, validWith}
-use Rattle.sheet.specs.Value.{readOf as sheetRead}
-use Rattle.packet.specs.Walk.{Stepped, field, end, refused as stepRefused, stepOf}
+use Rattle.sheet_text.specs.declared.Reading.{Reading}
+use Rattle.sheet_text.specs.Reading.{readOf as sheetRead}
+use Rattle.fields.specs.Walk.{Stepped, field, end, refused as stepRefused, stepOf}
 use Rattle.packet.specs.Reading.{Outcome, reads, refused}
 use Rattle.packet.specs.Reading.{readOf as packetRead}
 use Rattle.writing.specs.Writing.{Made, made, refused as notMade, writeOf}
-use Rattle.reception.specs.declared.Record.{Record}
-use Rattle.reception.specs.declared.Event.{Event}
-use Rattle.reception.specs.declared.Answer.{Answer}
-use Rattle.reception.specs.Record.{own}
-use Rattle.reception.specs.Answer.{Reply, messageOf}
+use Rattle.streams.specs.declared.Record.{Record}
+use Rattle.streams.specs.declared.Event.{Event}
+use Rattle.streams.specs.declared.Answer.{Answer}
+use Rattle.streams.specs.Record.{own}
+use Rattle.streams.specs.Answer.{Reply, messageOf}
 use Rattle.reception.specs.Steps.{Said, gives, refuses, check, Left, Try, readOf, attemptOf, storeOf, countOf}
-use Rattle.controller.specs.Event.{eventOf}
-use Rattle.controller.specs.Sending.{sendingOf}
-use Rattle.face.specs.Rows.{messageRow, messageIn, fieldRow, endRow, recordRow, recordsRow, recordsIn, eventRow, eventIn, replyRow, answerIn, tryRow, tryIn}
-
--- ---- what is returned, and what a lent slice holds
-
--- 0, or a refusal's number plus 256 times its line
-unfoldable pub code : {A : Type 0} → Said A → ℕ
-code (gives x) = 0
-code (refuses number line) = number + 256 * line
-
--- what is given goes into the front of the slice, and what is behind it stays as it was; a refusal "changes no lent octet"
-unfoldable pub put : {A : Type 0} → (A → List ℕ) → Said A → List ℕ → List ℕ
-put row (gives x) out = over (row x) out
-put row (refuses number line) out = out
-
--- 11 where there is not room enough for what would be given
-unfoldable pub roomy : {A : Type 0} → (A → Bool) → Said A → Said A
-roomy enough (gives x) = check (enough x) 11 (gives x)
-roomy enough (refuses number line) = refuses number line
-
--- ---- what is said
+use Rattle.incoming.specs.Event.{eventOf}
+use Rattle.outgoing.specs.Sending.{sendingOf}
+use Rattle.rows.specs.Rows.{messageRow, messageIn, fieldRow, endRow, recordRow, recordsRow, recordsIn, eventRow, eventIn, replyRow, answerIn, tryRow, tryIn}
 
 -- something else of what is given
 unfoldable pub ofGiven : {A B : Type 0} → (A → B) → Said A → Said B

@@ -1,4 +1,3 @@
-pub mod Rows
 pub mod Calls
 pub mod Promises
 pub mod Inner

@@ -7,23 +7,15 @@ use mathlib.Core.List.{List, [], _∷_}
 use lib.ListN.{length}
 use lib.Dec.{leb}
 use Rattle.octets.specs.Promises.{one-value}
-use Rattle.sheet.specs.declared.Reading.{Reading}
-use Rattle.sheet.specs.Value.{usersIn}
+use Rattle.sheet_text.specs.declared.Reading.{Reading}
+use Rattle.sheet_text.specs.Reading.{usersIn}
 use Rattle.reception.specs.Steps.{Said, gives, refuses}
-use Rattle.face.specs.Rows.{sheetRow}
-use Rattle.face.specs.Calls.{code, put, roomy, sheetSays, readSays, writeSays, fieldSays, eventSays, seenSays, countSays, workSays, Stored, storeSays, packetSays}
+use Rattle.rows.specs.Rows.{sheetRow}
+use Rattle.rows.specs.Lent.{code, put, roomy}
+use Rattle.rows.specs.Promises.{Rowed, rowed-once}
+use Rattle.face.specs.Calls.{sheetSays, readSays, writeSays, fieldSays, eventSays, seenSays, countSays, workSays, Stored, storeSays, packetSays}
 
 -- ---- calls that give one row
-
--- the row into the front of `out`, or the refusal
-abbrev pub Rowed : Said (List ℕ) → List ℕ → ℕ → List ℕ → Type 0
-Rowed said out r now =
-    let w = roomy (λ (row : List ℕ). leb (length row) (length out)) said in
-    (r ≡ code w) × (now ≡ put (λ (row : List ℕ). row) w out)
-
-pub rowed-once : (said : Said (List ℕ)) (out : List ℕ) (x y : ℕ) (now other : List ℕ)
-    → Rowed said out x now → Rowed said out y other → (x ≡ y) × (now ≡ other)
-rowed-once said out x y now other e f = (one-value x y (e .0) (f .0), one-value now other (e .1) (f .1))
 
 -- the message of a packet
 abbrev pub mcv-read≡ : List ℕ → List ℕ → List ℕ → ℕ → List ℕ → Type 0

@@ -1,42 +1,53 @@
 // The controller's calls for a host written in C, on numbers and octets (document 01: "also called from a bench host written in C, on numbers and octets,
 // with the same answers"). Each returns 0, or a refusal's number plus 256 times its line; include/coyametzi.h says what each row holds.
-mod answer;
-mod attempt;
-mod event;
-mod message;
-mod records;
 mod told;
 
-use answer::Answering;
-use attempt::Trying;
-use controller::Offered;
-use controller::Sending;
-use event::Eventing;
-use message::Handed;
+use fields::field::Field;
+use fields::field::Step;
+use incoming::Offered;
+use outgoing::Sending;
 use packet::Message;
 use packet::Reading;
-use packet::field::Field;
-use packet::field::Step;
 use reception::Answer;
 use reception::Attempt;
 use reception::Counted;
 use reception::Event;
+use reception::Record;
 use reception::Seen;
 use reception::Taking;
 use reception::Worked;
+use rows::NO_ROOM;
+use rows::NONE;
+use rows::OCTET_END;
+use rows::answer::Answering;
+use rows::answer::answer_in;
+use rows::attempt::GIVEN;
+use rows::attempt::Trying;
+use rows::attempt::attempt_in;
+use rows::attempt::put_attempt;
+use rows::event::Eventing;
+use rows::event::event_in;
+use rows::event::put_event;
+use rows::message::Handed;
+use rows::message::message_in;
+use rows::message::put_message;
+use rows::put;
+use rows::put_number;
+use rows::records::Recording;
+use rows::records::are_records;
+use rows::records::put_at;
+use rows::records::put_record;
+use rows::records::record_at;
+use rows::records::record_in;
 use sheet::Users;
 use sheet::numbers::LINES;
 use sheet::numbers::numbers_of;
-use told::NO_ROOM;
-use told::OCTET_END;
 use told::code;
 use told::misfit;
 use told::misfit_with;
-use told::put;
-use told::put_number;
 use writing::Writing;
 ghost use mathlib.Core.Path.{_≡_};
-ghost use mathlib.Core.Bool.{true, _&&_};
+ghost use mathlib.Core.Bool.{_&&_};
 ghost use Prim.Native.Nat.{_+_, _<_, _≤_, _^_};
 ghost use lib.ListN.{length};
 ghost use lib.Dec.{ltb, leb};
@@ -44,16 +55,14 @@ ghost use Rattle.octets.specs.Choice.{pick};
 ghost use Rattle.sheet.specs.Value.{sheetIn};
 ghost use Rattle.packet.specs.Message.{messageSaid};
 ghost use Rattle.writing.specs.Writing.{writeOf};
-ghost use Rattle.reception.specs.Answer.{messageOf};
-ghost use Rattle.reception.specs.Steps.{gives, check};
-ghost use Rattle.controller.specs.Sending.{sendingOf};
-ghost use Rattle.face.specs.Rows.{fieldRow, recordsIn};
+ghost use Rattle.streams.specs.Answer.{messageOf};
+ghost use Rattle.reception.specs.Steps.{gives, check, attemptOf};
+ghost use Rattle.outgoing.specs.Sending.{sendingOf};
+ghost use Rattle.rows.specs.Rows.{isSome, fieldRow, recordsIn, answerRow, tryRow};
+ghost use Rattle.rows.specs.Promises.{Rowed};
 ghost use Rattle.face.specs.Calls.{ofGiven, madeSays, octetsOf};
-ghost use Rattle.face.specs.Promises.{Rowed, Wrote, mcv-sheet≡, mcv-read≡, mcv-write≡, mcv-field≡, mcv-event≡, mcv-seen≡, mcv-work-out≡, mcv-store≡, mcv-count≡, mcv-packet≡};
-ghost use Rattle.face.specs.Inner.{isSome, WorksOut, Stores};
-
-// MCV_NONE, where there is no number.
-const NONE: u32 = 4294967295;
+ghost use Rattle.face.specs.Promises.{Wrote, mcv-sheet≡, mcv-read≡, mcv-write≡, mcv-field≡, mcv-event≡, mcv-seen≡, mcv-work-out≡, mcv-store≡, mcv-count≡, mcv-packet≡};
+ghost use Rattle.face.specs.Inner.{Stores};
 
 const BAD_FIELD: u32 = 4;
 
@@ -80,7 +89,7 @@ pub extern "C" fn mcv_sheet(
 ) -> u32
     ensures { λ r. ⌜ mcv-sheet≡ (now (text .entry)) (now (sheet .entry)) (now (users .entry)) (now (used .entry)) r (now (sheet .exit)) (now (users .exit)) (now (used .exit)) ⌝ }
 {
-    let reading = sheet::read(text);
+    let reading = sheet_text::read(text);
     let refusal = reading.refusal;
     if refusal.number != 0 {
         return code(refusal);
@@ -94,7 +103,7 @@ pub extern "C" fn mcv_sheet(
     let read = reading.sheet;
     let row = numbers_of(read);
     put(sheet, &row[..]);
-    *users = sheet::users(text);
+    *users = sheet_text::users(text);
     used[0] = reading.used as u32;
     0
 }
@@ -107,7 +116,7 @@ pub extern "C" fn mcv_read(sheet: &[u32], packet: &[u8], message: &mut [u32]) ->
     ensures { λ r. ⌜ mcv-read≡ (now (sheet .entry)) (now (packet .entry)) (now (message .entry)) r (now (message .exit)) ⌝ }
 {
     match packet::read_lent(sheet, packet) {
-        Reading::Read(read) => message::put_row(message, read),
+        Reading::Read(read) => put_message(message, read),
         Reading::Refused(refusal) => code(refusal),
     }
 }
@@ -134,7 +143,7 @@ pub extern "C" fn mcv_write(
 ) -> u32
     ensures { λ r. ⌜ mcv-write≡ (now (sheet .entry)) (now (message .entry)) (now (names .entry)) (now (out .entry)) (now (written .entry)) r (now (out .exit)) (now (written .exit)) ⌝ }
 {
-    match message::message_in(message) {
+    match message_in(message) {
         Handed::Message(given) => write(sheet, given, names, out, written),
         Handed::Nothing => misfit(sheet, NO_MESSAGE),
     }
@@ -162,7 +171,7 @@ fn put_field(out: &mut [u32], field: Field) -> u32
 pub extern "C" fn mcv_field(packet: &[u8], place: u32, field: &mut [u32]) -> u32
     ensures { λ r. ⌜ mcv-field≡ (now (packet .entry)) place (now (field .entry)) r (now (field .exit)) ⌝ }
 {
-    match packet::field::field_at(packet, place as usize) {
+    match fields::field::field_at(packet, place as usize) {
         Step::Field(found) => put_field(field, found),
         Step::End => {
             let row = [NONE, place, 0, place];
@@ -179,8 +188,8 @@ pub extern "C" fn mcv_field(packet: &[u8], place: u32, field: &mut [u32]) -> u32
 pub extern "C" fn mcv_event(sheet: &[u32], users: &Users, packet: &[u8], event: &mut [u32]) -> u32
     ensures { λ r. ⌜ mcv-event≡ (now (sheet .entry)) (now (users .entry)) (now (packet .entry)) (now (event .entry)) r (now (event .exit)) ⌝ }
 {
-    match controller::event_lent(sheet, users, packet) {
-        Offered::Event(offered) => event::put_row(event, offered),
+    match incoming::event_lent(sheet, users, packet) {
+        Offered::Event(offered) => put_event(event, offered),
         Offered::Refused(refusal) => code(refusal),
     }
 }
@@ -189,7 +198,7 @@ pub extern "C" fn mcv_event(sheet: &[u32], users: &Users, packet: &[u8], event: 
 fn are_right(records: &[u8], stream: u32) -> bool
     ensures { λ r. ⌜ r ≡ (isSome (recordsIn 8 (now (records .entry))) && ltb stream 256) ⌝ }
 {
-    if !records::are_records(records) {
+    if !are_records(records) {
         return false;
     }
     stream < OCTET_END
@@ -203,8 +212,9 @@ pub extern "C" fn mcv_seen(sheet: &[u32], records: &[u8], stream: u32, seen: &mu
     if !are_right(records, stream) {
         return misfit(sheet, NOT_LEGAL);
     }
-    match reception::read_lent(sheet, records::streams_in(records), stream as u8) {
-        Seen::Read(own) => records::put_record(seen, own),
+    let stream = stream as u8;
+    match reception::seen_lent(sheet, record_at(records, stream), stream) {
+        Seen::Read(own) => put_record(seen, own),
         Seen::Refused(refusal) => code(refusal),
     }
 }
@@ -217,19 +227,19 @@ pub extern "C" fn mcv_count(sheet: &[u32], records: &[u8], stream: u32, count: &
     if !are_right(records, stream) {
         return misfit(sheet, NOT_LEGAL);
     }
-    match reception::count_lent(sheet, records::streams_in(records), stream as u8) {
+    let stream = stream as u8;
+    match reception::counted_lent(sheet, record_at(records, stream), stream) {
         Counted::Count(number) => put_number(count, number),
         Counted::Refused(refusal) => code(refusal),
     }
 }
 
 // What an event makes of a record.
-fn work_out(sheet: &[u32], seen: &[u8], event: Event, attempt: &mut [u32]) -> u32
-    requires { ⌜ isSome (recordsIn 1 (now seen)) ≡ true ⌝ }
-    ensures { λ r. ⌜ WorksOut (now (sheet .entry)) (now (seen .entry)) event (now (attempt .entry)) r (now (attempt .exit)) ⌝ }
+fn work_out(sheet: &[u32], seen: Record, event: Event, attempt: &mut [u32]) -> u32
+    ensures { λ r. ⌜ Rowed (ofGiven tryRow (attemptOf (sheetIn (now (sheet .entry))) seen event)) (now (attempt .entry)) r (now (attempt .exit)) ⌝ }
 {
-    match reception::work_out_lent(sheet, records::record_in(seen), event) {
-        Worked::Out(worked) => attempt::put_row(attempt, worked),
+    match reception::work_out_lent(sheet, seen, event) {
+        Worked::Out(worked) => put_attempt(attempt, worked),
         Worked::Refused(refusal) => code(refusal),
     }
 }
@@ -244,29 +254,33 @@ pub extern "C" fn mcv_work_out(
 ) -> u32
     ensures { λ r. ⌜ mcv-work-out≡ (now (sheet .entry)) (now (seen .entry)) (now (event .entry)) (now (attempt .entry)) r (now (attempt .exit)) ⌝ }
 {
-    if !records::is_record(seen) {
+    let Recording::Record(own) = record_in(seen) else {
         return misfit(sheet, NOT_LEGAL);
-    }
-    match event::event_in(event) {
-        Eventing::Event(given) => work_out(sheet, seen, given, attempt),
+    };
+    match event_in(event) {
+        Eventing::Event(given) => work_out(sheet, own, given, attempt),
         Eventing::Nothing => misfit(sheet, NOT_LEGAL),
     }
 }
 
-// Stores an attempt, and gives its answer. Of the records, the stream's own two octets alone are written.
-fn store(sheet: &[u32], attempt: Attempt, records: &mut [u8], answer: &mut [u32]) -> u32
-    requires { ⌜ isSome (recordsIn 8 (now records)) ≡ true ⌝ }
+// Stores an attempt whose answer has this row, and gives that row. Of the records, the stream's own two octets alone are written.
+fn store(
+    sheet: &[u32],
+    attempt: Attempt,
+    given: &[u32],
+    records: &mut [u8],
+    answer: &mut [u32],
+) -> u32
+    requires { ⌜ now given ≡ answerRow (attempt .answer) ⌝ }
     ensures { λ r. ⌜ Stores (now (sheet .entry)) attempt (now (records .entry)) (now (answer .entry)) r (now (records .exit)) (now (answer .exit)) ⌝ }
 {
-    let stream = attempt.stream as usize;
+    let stream = attempt.stream;
     let wanted = attempt.wanted;
-    let stored = reception::store_lent(sheet, attempt, records::streams_in(records));
-    let taking = stored.taking;
-    match taking {
-        Taking::Took(given) => {
-            let returned = answer::put_row(answer, given);
+    match reception::settle_lent(sheet, attempt, record_at(records, stream)) {
+        Taking::Took(_) => {
+            let returned = put(answer, given);
             if returned == 0 {
-                records::put_at(records, stream, wanted);
+                put_at(records, stream, wanted);
             }
             returned
         }
@@ -284,11 +298,11 @@ pub extern "C" fn mcv_store(
 ) -> u32
     ensures { λ r. ⌜ mcv-store≡ (now (sheet .entry)) (now (attempt .entry)) (now (records .entry)) (now (answer .entry)) r (now (records .exit)) (now (answer .exit)) ⌝ }
 {
-    if !records::are_records(records) {
+    if !are_records(records) {
         return misfit(sheet, NOT_LEGAL);
     }
-    match attempt::attempt_in(attempt) {
-        Trying::Attempt(given) => store(sheet, given, records, answer),
+    match attempt_in(attempt) {
+        Trying::Attempt(given) => store(sheet, given, &attempt[GIVEN..], records, answer),
         Trying::Nothing => misfit(sheet, NOT_LEGAL),
     }
 }
@@ -305,7 +319,7 @@ fn send(
     ensures { λ r. ⌜ Wrote (ofGiven octetsOf (sendingOf (sheetIn (now (sheet .entry))) (now (users .entry)) stream (messageOf answer) (length (now (out .entry))))) (now (out .entry)) (now (written .entry)) r (now (out .exit)) (now (written .exit)) ⌝ }
 {
     let room = room_of(out.len(), written.len());
-    match controller::packet_lent(sheet, users, stream, answer, &mut out[..room]) {
+    match outgoing::packet_lent(sheet, users, stream, answer, &mut out[..room]) {
         Sending::Written(octets) => put_number(written, octets as u32),
         Sending::Nothing => put_number(written, 0),
         Sending::Refused(refusal) => code(refusal),
@@ -327,7 +341,7 @@ pub extern "C" fn mcv_packet(
     if OCTET_END <= stream {
         return misfit_with(sheet, users, NOT_LEGAL);
     }
-    match answer::answer_in(answer) {
+    match answer_in(answer) {
         Answering::Answer(given) => send(sheet, users, stream as u8, given, out, written),
         Answering::Nothing => misfit_with(sheet, users, NOT_LEGAL),
     }

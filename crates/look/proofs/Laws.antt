@@ -1,9 +1,5 @@
 pub mod Lines
-pub mod Hex
-pub mod Packets
 pub mod Line
-pub mod Values
-pub mod Widths
 pub mod Fits
 pub mod Pieces
 pub mod Calls

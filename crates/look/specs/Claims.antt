@@ -1,22 +1,18 @@
 -- What is claimed of `mcvlook` beyond its functions. Each has its proof under proofs/. Assumes nothing.
 use mathlib.Core.Path.{_≡_}
-use Prim.Native.Nat.{ℕ, _+_, _*_, _≤_}
+use Prim.Native.Nat.{ℕ, _≤_}
 use mathlib.Core.Bool.{Bool}
 use mathlib.Core.List.{List, [], _∷_, _++_, map, flatten}
 use lib.ListN.{length, take}
 use lib.Dec.{T}
 use Rattle.octets.specs.Choice.{every}
-use Rattle.sheet.specs.declared.Sheet.{Sheet}
-use Rattle.sheet.specs.Line.{lf, longest}
-use Rattle.sheet.specs.Value.{validAlone, noRefusal}
-use Rattle.packet.specs.declared.Numbers.{Numbers}
-use Rattle.packet.specs.Kind.{numbersOf}
+use Rattle.sheet_text.specs.Line.{lf, longest}
+use Rattle.sheet_text.specs.Reading.{noRefusal}
 use Rattle.writing.specs.declared.Writing.{Writing}
 use Rattle.writing.specs.declared.Writing.the-variants.{Written}
 use Rattle.look.specs.declared.Look.{Look}
 use Rattle.look.specs.declared.Stepped.{Stepped}
 use Rattle.look.specs.Lines.{inLine, linesOf}
-use Rattle.look.specs.Line.{lineOf, lineBy}
 use Rattle.look.specs.Look.{lookOf}
 use Rattle.look.specs.Steps.{isRefused, stateOf, lastOf, mostHeld, roomAsked}
 use Rattle.look.specs.Promises.{start≡, step≡, end≡}
@@ -61,7 +57,7 @@ RoomIsEnough = (look : Look) (c : Call) → Called look c → c .said .refusal �
 abbrev pub RefusedIsAll : Type 0
 RefusedIsAll = (look : Look) (c : Call) → T (isRefused (stateOf look)) → Called look c → (printedBy c ≡ []) × T (isRefused (stateOf (c .said .look)))
 
--- As much as is held decides a sheet (`LongestDecides` of sheet).
+-- As much as is held decides a sheet (`LongestDecides` of sheet_text).
 abbrev pub HeldDecides : Type 0
 HeldDecides = longest ≤ mostHeld
 
@@ -85,17 +81,3 @@ LinesExactly =
     (t : List ℕ)
     → ((ended : List (List ℕ)) × (left : List ℕ) × Lined t ended left)
     × ((ended : List (List ℕ)) (left : List ℕ) → Lined t ended left → linesOf t ≡ ended ++ lastOf left)
-
--- ---- one line
-
--- Under a sheet's numbers a line prints what it does under the sheet.
-abbrev pub UnderASheet : Type 0
-UnderASheet = (s : Sheet) (line : List ℕ) → T (validAlone s) → lineOf s line ≡ lineBy (numbersOf s) line
-
--- the longest line that is printed: kind 1 with two names of 60 octets
-abbrev pub mostText : ℕ
-mostText = 212
-
--- A line needs no more than so many octets of a buffer, and no more than ten for each of its own and its LF.
-abbrev pub LineFits : Type 0
-LineFits = (n : Numbers) (line : List ℕ) → (length (lineBy n line) ≤ mostText) × (length (lineBy n line) ≤ 10 * (length line + 1))

@@ -1,5 +1,4 @@
 pub mod Lines
-pub mod Line
 pub mod Look
 pub mod Steps
 pub mod Inner

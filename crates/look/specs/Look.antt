@@ -5,14 +5,11 @@ use mathlib.Core.List.{List, map, flatten}
 use lib.ListN.{drop}
 use lib.Dec.{eqb}
 use Rattle.octets.specs.Choice.{pick}
-use Rattle.sheet.specs.Value.{readOf}
+use Rattle.sheet_text.specs.Reading.{readOf}
+use Rattle.shown.specs.Line.{lineOf, sheetLine}
 use Rattle.look.specs.Lines.{linesOf}
-use Rattle.look.specs.Line.{numberLine, lineOf}
 
 -- "A refused sheet prints `sheet=LINE` and nothing more"
-unfoldable pub sheetLine : ℕ → List ℕ
-sheetLine line = numberLine "sheet=" line
-
 unfoldable pub lookOf : List ℕ → List ℕ
 lookOf t =
     let r = readOf t in

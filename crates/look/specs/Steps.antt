@@ -8,18 +8,17 @@ use lib.Dec.{leb, ltb, eqb}
 use Rattle.octets.specs.Choice.{pick}
 use Rattle.octets.specs.Buffer.{over, padded}
 use Rattle.sheet.specs.declared.Refusal.{Refusal}
-use Rattle.sheet.specs.Line.{lf}
-use Rattle.sheet.specs.Value.{noRefusal, readOf}
+use Rattle.sheet_text.specs.Line.{lf}
+use Rattle.sheet_text.specs.Reading.{noRefusal, readOf}
 use Rattle.packet.specs.declared.Numbers.{Numbers}
 use Rattle.packet.specs.Kind.{numbersOf}
 use Rattle.writing.specs.Writing.{Made, made, refused}
+use Rattle.shown.specs.Line.{mostDigits, lineBy, sheetLine}
 use Rattle.look.specs.declared.held.Held.{Held}
 use Rattle.look.specs.declared.Phase.{Phase}
 use Rattle.look.specs.declared.Phase.the-variants.{Sheet, Lines, Refused}
 use Rattle.look.specs.declared.Look.{Look}
 use Rattle.look.specs.declared.Stepped.{Stepped}
-use Rattle.look.specs.Line.{mostDigits, lineBy}
-use Rattle.look.specs.Look.{sheetLine}
 
 -- ---- what is kept
 

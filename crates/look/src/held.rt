@@ -1,7 +1,8 @@
 // Octets that are kept from piece to piece: the sheet's text, or a line so far.
+use shown::least;
 ghost use mathlib.Core.Path.{_≡_};
 ghost use mathlib.Core.List.{[], _++_};
-ghost use Prim.Native.Nat.{_≤_, min};
+ghost use Prim.Native.Nat.{_≤_};
 ghost use lib.ListN.{length, take};
 ghost use Rattle.look.specs.Steps.{mostHeld, heldIn, heldOf};
 
@@ -22,13 +23,6 @@ pub fn none() -> Held
         octets: [0; MOST],
         len: 0,
     }
-}
-
-// The lesser of two numbers.
-pub fn least(m: usize, n: usize) -> usize
-    ensures { λ r. ⌜ r ≡ min m n ⌝ }
-{
-    if m < n { m } else { n }
 }
 
 // How many octets are held.

@@ -1,19 +1,16 @@
 // What `mcvlook` prints (document 01, "Bench program"): a call sheet and then packets in hex, one a line, come in pieces; out goes a line of
 // text for each packet. What is kept between two pieces is a value, and has the same size whatever came.
-mod decimal;
 mod held;
-pub mod hex;
-mod line;
 mod lines;
-pub mod print;
-mod text;
-mod values;
 
 use held::Held;
 use held::MOST;
 use packet::NO_NUMBERS;
 use packet::Numbers;
 use sheet::Refusal;
+use shown::NO_ROOM;
+use shown::TIMES;
+use shown::line;
 use writing::Writing;
 ghost use mathlib.Core.Path.{_≡_};
 ghost use mathlib.Core.Logic.{_⊎_};
@@ -21,7 +18,7 @@ ghost use mathlib.Core.List.{[], _++_};
 ghost use Prim.Native.Nat.{_+_, _*_, _≤_};
 ghost use lib.Dec.{leb};
 ghost use lib.ListN.{length};
-ghost use Rattle.octets.specs.Buffer.{putAt};
+ghost use Rattle.shown.specs.Promises.{Put};
 ghost use Rattle.look.specs.Steps.{mostHeld, inSheet, inLines, refusedSheet, stateOf, lookAs, fed, stepOf, lastText, decided, heldIn, roomAsked};
 ghost use Rattle.look.specs.Inner.{WentTo};
 ghost use Rattle.look.specs.Promises.{start≡, step≡, end≡, is-refused≡};
@@ -53,19 +50,10 @@ struct Went {
     end: usize,
 }
 
-// An octet of the input makes at most so many of the output.
-const TIMES: usize = 10;
-
 // The room that the end of the input asks for, and a piece beside ten octets for each of its own.
 pub const ROOM: usize = TIMES * (MOST + 1);
 
-const NO_ROOM: Refusal = Refusal { number: 11, at: 0 };
-
 const NOT_REFUSED: Refusal = Refusal { number: 0, at: 0 };
-
-const LF: u8 = 10;
-
-const SHEET: [u8; 6] = *b"sheet=";
 
 // Whether a buffer of so many octets has room for what a piece of so many prints.
 fn has_room(out: usize, piece: usize) -> bool
@@ -125,11 +113,10 @@ fn decide(out: &mut [u8], held: Held, rest: &[u8]) -> Went
     let octets = held.octets;
     let len = held::length_of(held);
     let text = &octets[..len];
-    let reading = sheet::read(text);
+    let reading = sheet_text::read(text);
     let refusal = reading.refusal;
     if refusal.number != 0 {
-        let name = SHEET;
-        let end = decimal::put_line(out, 0, &name, refusal.at);
+        let end = line::put_sheet(out, 0, refusal.at);
         return Went {
             look: refused(),
             end,
@@ -193,8 +180,7 @@ pub fn step(look: Look, piece: &[u8], out: &mut [u8]) -> Stepped
 // Puts the last line, where one is begun, and gives the place past it.
 fn put_last(out: &mut [u8], at: usize, numbers: Numbers, held: Held) -> usize
     requires { ⌜ at + 10 * (length (heldIn held) + 1) ≤ length (now out) ⌝ }
-    ensures { λ r. ⌜ (now (out .exit) ≡ putAt (now (out .entry)) at (lastText (inLines numbers (heldIn held))))
-        × (r ≡ at + length (lastText (inLines numbers (heldIn held)))) ⌝ }
+    ensures { λ r. ⌜ Put (lastText (inLines numbers (heldIn held))) (now (out .entry)) at r (now (out .exit)) ⌝ }
 {
     let octets = held.octets;
     let len = held::length_of(held);
@@ -207,7 +193,7 @@ fn put_last(out: &mut [u8], at: usize, numbers: Numbers, held: Held) -> usize
 // Puts what is left at the end of the input, and gives the place past it.
 fn put_end(out: &mut [u8], at: usize, look: Look) -> usize
     requires { ⌜ at + 10 * (length (heldIn (look .held)) + 1) ≤ length (now out) ⌝ }
-    ensures { λ r. ⌜ (now (out .exit) ≡ putAt (now (out .entry)) at (lastText (stateOf look))) × (r ≡ at + length (lastText (stateOf look))) ⌝ }
+    ensures { λ r. ⌜ Put (lastText (stateOf look)) (now (out .entry)) at r (now (out .exit)) ⌝ }
 {
     let phase = look.phase;
     match phase {

@@ -1,21 +1,21 @@
 // The lines in a piece of the input (document 01, "Bench program").
-use super::LF;
 use super::held;
 use super::held::Held;
-use super::line;
 use packet::Numbers;
+use shown::LF;
+use shown::line;
 ghost use mathlib.Core.Path.{_≡_};
 ghost use mathlib.Core.Bool.{not};
 ghost use mathlib.Core.List.{[]};
 ghost use Prim.Native.Nat.{_+_, _*_, _≤_};
 ghost use lib.ListN.{length, drop};
 ghost use Rattle.octets.specs.Choice.{every, front};
-ghost use Rattle.octets.specs.Buffer.{putAt};
+ghost use Rattle.shown.specs.Promises.{Put};
 ghost use Rattle.look.specs.Lines.{inLine};
 ghost use Rattle.look.specs.Steps.{heldIn, heldOf, keptOf, leftFrom, linesText};
 
 // One digit more than a packet has decides a line.
-const LINE: usize = 2 * super::hex::MOST + 1;
+const LINE: usize = 2 * shown::hex::MOST + 1;
 
 // What is kept of a line that has not ended, and the place past what was printed.
 pub struct Kept {
@@ -80,8 +80,7 @@ struct Ended {
 // Puts the lines for those that end in a piece from a place on, one behind the other.
 fn put_ended(out: &mut [u8], at: usize, numbers: Numbers, piece: &[u8], from: usize) -> Ended
     requires { ⌜ (from ≤ length (now piece)) × (at + 10 * length (drop from (now piece)) ≤ length (now out)) ⌝ }
-    ensures { λ r. ⌜ (now (out .exit) ≡ putAt (now (out .entry)) at (linesText numbers [] (drop from (now (piece .entry)))))
-        × (r .end ≡ at + length (linesText numbers [] (drop from (now (piece .entry)))))
+    ensures { λ r. ⌜ Put (linesText numbers [] (drop from (now (piece .entry)))) (now (out .entry)) at (r .end) (now (out .exit))
         × (r .left ≤ length (now (piece .entry)))
         × (drop (r .left) (now (piece .entry)) ≡ leftFrom [] (drop from (now (piece .entry)))) ⌝ }
 {
@@ -99,8 +98,7 @@ fn put_ended(out: &mut [u8], at: usize, numbers: Numbers, piece: &[u8], from: us
 // Puts the lines for those that end in a piece, the first of them begun with what is held, and keeps what stands behind the last LF.
 pub fn put_lines(out: &mut [u8], at: usize, numbers: Numbers, held: Held, piece: &[u8]) -> Kept
     requires { ⌜ at + 10 * (length (heldIn held) + length (now piece)) ≤ length (now out) ⌝ }
-    ensures { λ r. ⌜ (now (out .exit) ≡ putAt (now (out .entry)) at (linesText numbers (heldIn held) (now (piece .entry))))
-        × (r .end ≡ at + length (linesText numbers (heldIn held) (now (piece .entry))))
+    ensures { λ r. ⌜ Put (linesText numbers (heldIn held) (now (piece .entry))) (now (out .entry)) at (r .end) (now (out .exit))
         × (r .held ≡ heldOf (keptOf (leftFrom (heldIn held) (now (piece .entry))))) ⌝ }
 {
     let lf = line_end(piece, 0);

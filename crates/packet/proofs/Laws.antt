@@ -1,13 +1,8 @@
-pub mod Sized
-pub mod Checks
-pub mod Walk
-pub mod Fields
-pub mod Step
-pub mod Layouts
 pub mod Kinds
 pub mod Judging
 pub mod Sound
 pub mod Allowed
+pub mod Reading
 pub mod Accepts
 pub mod NamesInside
 pub mod Unused
@@ -15,6 +10,3 @@ pub mod Values
 pub mod Slots
 pub mod Places
 pub mod Judged
-pub mod Called
-pub mod Owned
-pub mod Reader

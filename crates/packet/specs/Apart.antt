@@ -14,12 +14,9 @@ use Rattle.packet.specs.declared.Message.{Message}
 use Rattle.packet.specs.declared.Message.the-variants.{ReceiveRequest, ReceiveResponse, EndRequest, EndResponse, TransmissionEnd, TransmissionEndResponse, Ack}
 use Rattle.packet.specs.declared.Reading.{Reading}
 use Rattle.packet.specs.declared.Reading.the-variants.{Read, Refused}
-use Rattle.packet.specs.declared.field.Step.{Step}
-use Rattle.packet.specs.declared.field.Step.the-variants.{Field as FieldStep, End as EndStep, Refused as RefusedStep}
-use Rattle.packet.specs.Walk.{Stepped, field, end, refused as stepRefused}
 use Rattle.packet.specs.Judge.{Held, absent, given, named}
 use Rattle.packet.specs.Reading.{Outcome, reads, refused}
-use Rattle.packet.specs.Message.{messageSaid, readSaid, stepSaid}
+use Rattle.packet.specs.Message.{messageSaid, readSaid}
 
 -- ---- a value got back
 
@@ -85,16 +82,6 @@ read-back : (r : Reading) → readBack (readSaid r) ≡ r
 read-back (Read m) = message-back m
 read-back (Refused r) = refl
 
-abbrev stepBack : Stepped → Step
-stepBack (field f) = FieldStep f
-stepBack end = EndStep
-stepBack (stepRefused number at) = RefusedStep (record { number = number; at = at })
-
-step-back : (s : Step) → stepBack (stepSaid s) ≡ s
-step-back (FieldStep f) = refl
-step-back EndStep = refl
-step-back (RefusedStep r) = refl
-
 -- ---- so no two say the same
 
 -- of messages: the definition that sets out their values tells them apart
@@ -107,7 +94,3 @@ message-apart x y e = inside (sym (message-back x) ∙ ap readBack e ∙ message
 -- of answers to a packet
 pub reading-apart : (x y : Reading) → readSaid x ≡ readSaid y → x ≡ y
 reading-apart x y e = sym (read-back x) ∙ ap readBack e ∙ read-back y
-
--- of answers to a place
-pub step-apart : (x y : Step) → stepSaid x ≡ stepSaid y → x ≡ y
-step-apart x y e = sym (step-back x) ∙ ap stepBack e ∙ step-back y

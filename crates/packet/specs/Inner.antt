@@ -10,17 +10,16 @@ use lib.Dec.{T, leb, eqb}
 use Rattle.octets.specs.Choice.{pick, every}
 use Rattle.octets.specs.Buffer.{padded}
 use Rattle.octets.specs.Big.{bigAt}
-use Rattle.sheet.specs.declared.Refusal.{Refusal}
+use Rattle.fields.specs.declared.field.Field.{Field}
+use Rattle.fields.specs.Header.{firstField, ssrcIn, ackAsked}
+use Rattle.fields.specs.Walk.{fieldsOf, stopFrom}
 use Rattle.packet.specs.declared.Head.{Head}
-use Rattle.packet.specs.declared.field.Field.{Field}
 use Rattle.packet.specs.declared.Numbers.{Numbers}
 use Rattle.packet.specs.declared.kind.Form.the-variants.{Barred}
 use Rattle.packet.specs.declared.kind.Slot.{Slot}
 use Rattle.packet.specs.declared.judge.Judged.{Judged}
 use Rattle.packet.specs.declared.judge.Use.{Use}
 use Rattle.packet.specs.declared.judge.Use.the-variants.{Fills, Repeats, Skipped}
-use Rattle.packet.specs.Header.{firstField, ssrcIn, ackAsked}
-use Rattle.packet.specs.Walk.{fieldsOf, stopFrom, Stepped, refused}
 use Rattle.packet.specs.Kind.{Kind, kinds, slotsOf}
 use Rattle.packet.specs.Judge.{Held, absent, given, named, Filled, filledIn, faultOf}
 
@@ -144,9 +143,3 @@ valuesFrom kind p places =
     ∷ [])
     (kind - 1)
     []
-
--- ---- the field reader
-
--- a refusal, where there is one; else what a step says
-abbrev pub refusedOr : Refusal → Stepped → Stepped
-refusedOr r said = pick (eqb (r .number) 0) said (refused (r .number) (r .at))

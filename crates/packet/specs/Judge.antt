@@ -8,11 +8,11 @@ use lib.Dec.{leb, eqb}
 use Rattle.octets.specs.Choice.{pick, keep, some-of}
 use Rattle.octets.specs.Big.{bigAt}
 use Rattle.sheet.specs.Judge.{userId}
-use Rattle.packet.specs.declared.field.Field.{Field}
+use Rattle.fields.specs.declared.field.Field.{Field}
+use Rattle.fields.specs.Walk.{valueOf}
 use Rattle.packet.specs.declared.kind.Form.{Form}
 use Rattle.packet.specs.declared.kind.Form.the-variants.{UserId, Number, Cause, Result, MessageType, Barred}
 use Rattle.packet.specs.declared.kind.Slot.{Slot}
-use Rattle.packet.specs.Walk.{valueOf}
 
 -- ---- one field's value
 

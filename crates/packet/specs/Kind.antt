@@ -8,11 +8,11 @@ use lib.Dec.{eqb}
 use Rattle.octets.specs.Choice.{pick, same, first-by}
 use Rattle.octets.specs.Text.{ascii}
 use Rattle.sheet.specs.declared.Sheet.{Sheet}
+use Rattle.fields.specs.Header.{lettersIn, numberIn}
 use Rattle.packet.specs.declared.Numbers.{Numbers}
 use Rattle.packet.specs.declared.kind.Form.{Form}
 use Rattle.packet.specs.declared.kind.Form.the-variants.{UserId, Number, Cause, Result, MessageType, Barred}
 use Rattle.packet.specs.declared.kind.Slot.{Slot}
-use Rattle.packet.specs.Header.{lettersIn, numberIn}
 
 -- "Brackets: may be absent, never twice. All other fields must be there once"; and "Reject Cause exactly if Result is 0", which
 -- is to say unless it is 1, the Result of a grant

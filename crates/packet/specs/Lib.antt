@@ -1,12 +1,8 @@
-pub mod Header
-pub mod Walk
 pub mod Kind
 pub mod Judge
 pub mod Reading
 pub mod Message
-pub mod Reader
 pub mod Inner
 pub mod Apart
 pub mod Promises
-pub mod Layout
 pub mod Claims

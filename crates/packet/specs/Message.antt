@@ -11,9 +11,6 @@ use Rattle.packet.specs.declared.Message.{Message}
 use Rattle.packet.specs.declared.Message.the-variants.{ReceiveRequest, ReceiveResponse, EndRequest, EndResponse, TransmissionEnd, TransmissionEndResponse, Ack}
 use Rattle.packet.specs.declared.Reading.{Reading}
 use Rattle.packet.specs.declared.Reading.the-variants.{Read, Refused}
-use Rattle.packet.specs.declared.field.Step.{Step}
-use Rattle.packet.specs.declared.field.Step.the-variants.{Field as FieldStep, End as EndStep, Refused as RefusedStep}
-use Rattle.packet.specs.Walk.{Stepped, field, end, refused as stepRefused}
 use Rattle.packet.specs.Judge.{Held, absent, given, named}
 use Rattle.packet.specs.Reading.{Outcome, reads, refused}
 
@@ -49,8 +46,3 @@ messageSaid (Ack h source about) = headed 7 h (given source ∷ given about ∷ 
 abbrev pub readSaid : Reading → Outcome
 readSaid (Read m) = messageSaid m
 readSaid (Refused r) = refused (r .number) (r .at)
-
-abbrev pub stepSaid : Step → Stepped
-stepSaid (FieldStep f) = field f
-stepSaid EndStep = end
-stepSaid (RefusedStep r) = stepRefused (r .number) (r .at)

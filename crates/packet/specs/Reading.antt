@@ -7,10 +7,10 @@ use mathlib.Core.Option.{Option, none, some}
 use Rattle.octets.specs.Choice.{pick}
 use Rattle.sheet.specs.declared.Sheet.{Sheet}
 use Rattle.sheet.specs.Value.{validAlone}
+use Rattle.fields.specs.Header.{pastChecks, ackAsked, ssrcIn}
+use Rattle.fields.specs.Walk.{fieldsOf, whole}
 use Rattle.packet.specs.declared.Numbers.{Numbers}
 use Rattle.packet.specs.declared.kind.Slot.{Slot}
-use Rattle.packet.specs.Header.{pastChecks, ackAsked, ssrcIn}
-use Rattle.packet.specs.Walk.{fieldsOf, whole}
 use Rattle.packet.specs.Kind.{Kind, kindOf, slotsOf, numbersOf}
 use Rattle.packet.specs.Judge.{Held, granted, filledIn, faultOf, heldBy}
 

@@ -1,10 +1,4 @@
-// How packets are coded: what the header says, and the IDs of fields (document 01, "Packet"; RFC 3550, 6.7 and 12.1).
-
-// The fields follow the header's twelve octets.
-pub const FIRST_FIELD: usize = 12;
-
-// The packet type of APP.
-pub const APP: u8 = 204;
+// How the messages are coded: their letters, and the IDs of their fields (document 01, "Packet").
 
 // The letters "MCV0", as one number.
 pub const MCV0: u32 = 0x4D435630;
@@ -14,9 +8,6 @@ pub const MCV1: u32 = 0x4D435631;
 
 // The letters "MCV2".
 pub const MCV2: u32 = 0x4D435632;
-
-// "An ID of 192 or more is refused (house)".
-pub const ID_END: u8 = 192;
 
 // "User ID (6)"; the Source ID of a receive media request has the same.
 pub const USER_ID: u32 = 6;

@@ -1,17 +1,17 @@
 // The fields of a packet judged against what its kind takes (document 01, "Packet", and refusal 5).
-use super::codes::FIRST_FIELD;
 use super::kind::Form;
 use super::kind::SLOTS;
 use super::kind::Slots;
-use super::walk::number_at;
-use super::walk::size_at;
+use fields::codes::FIRST_FIELD;
+use fields::walk::size_of;
 use sheet::user::is_user_id;
 ghost use mathlib.Core.Path.{_≡_};
 ghost use mathlib.Core.Bool.{_&&_};
 ghost use Prim.Native.Nat.{_+_, _<_, _≤_};
 ghost use lib.Dec.{T, eqb};
 ghost use lib.ListN.{length};
-ghost use Rattle.packet.specs.Walk.{fieldAt, fieldRight, fieldsOf};
+ghost use Rattle.octets.specs.Big.{bigAt};
+ghost use Rattle.fields.specs.Walk.{fieldAt, fieldRight, fieldsOf};
 ghost use Rattle.packet.specs.Judge.{fits, granted};
 ghost use Rattle.packet.specs.Inner.{Walked, JudgedIs, openIn, lackIn};
 
@@ -31,6 +31,14 @@ enum Use {
     Skipped,
 }
 
+// The 16-bit number at the front of the value of the field at a place.
+pub fn number_at(packet: &[u8], at: usize) -> u16
+    requires { ⌜ at + 4 ≤ length (now packet) ⌝ }
+    ensures { λ r. ⌜ r ≡ bigAt 2 (now (packet .entry)) (at + 2) ⌝ }
+{
+    (packet[at + 2] as u16) * 256 + (packet[at + 3] as u16)
+}
+
 // Whether the packet's first Result is 1; no other kind than 2 has one.
 pub fn is_granted(packet: &[u8], kind: u32, resultid: u32) -> bool
     requires { ⌜ Walked (now packet) ⌝ }
@@ -47,7 +55,7 @@ pub fn is_granted(packet: &[u8], kind: u32, resultid: u32) -> bool
             }
             return number_at(packet, at) == 1;
         }
-        at += size_at(packet, at);
+        at += size_of(packet[at + 1]);
     }
     false
 }
@@ -133,7 +141,7 @@ pub fn judge(packet: &[u8], slots: Slots) -> Judged
             Use::Repeats => return Judged { fault: at, places },
             Use::Skipped => {}
         }
-        at += size_at(packet, at);
+        at += size_of(packet[at + 1]);
     }
     if lacks(slots, places) {
         return Judged {

@@ -1,12 +1,8 @@
-// RTCP APP packets of MCVideo (document 01, "Packet"; RFC 3550, 6.7): read as one of seven messages, or field by field.
+// RTCP APP packets of MCVideo (document 01, "Packet"; RFC 3550, 6.7), read as one of seven messages.
 pub mod codes;
-pub mod field;
-mod header;
 mod judge;
 mod kind;
-pub mod reader;
 mod values;
-mod walk;
 
 use sheet::Refusal;
 use sheet::Sheet;
@@ -180,7 +176,7 @@ fn read_kind(numbers: Numbers, packet: &[u8], kind: u32, head: Head) -> Reading
 pub fn read_by(numbers: Numbers, packet: &[u8]) -> Reading
     ensures { λ r. ⌜ read-by≡ numbers (now (packet .entry)) r ⌝ }
 {
-    let failed = header::failed_check(packet);
+    let failed = fields::header::failed_check(packet);
     if failed != 0 {
         return refused(failed);
     }
@@ -189,7 +185,7 @@ pub fn read_by(numbers: Numbers, packet: &[u8]) -> Reading
     if kind == 0 {
         return refused(3);
     }
-    if walk::walk(packet, codes::FIRST_FIELD) < packet.len() {
+    if fields::walk::walk(packet, fields::codes::FIRST_FIELD) < packet.len() {
         return refused(4);
     }
     read_kind(numbers, packet, kind, head)

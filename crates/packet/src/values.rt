@@ -5,7 +5,7 @@ use super::Message;
 use super::Name;
 use super::Verdict;
 use super::judge::Places;
-use super::walk::number_at;
+use super::judge::number_at;
 ghost use mathlib.Core.Path.{_≡_};
 ghost use Prim.Native.Nat.{_+_, _<_, _≤_};
 ghost use lib.ListN.{length};

@@ -1,45 +1,27 @@
 -- What is claimed of reception beyond its functions. Each has its proof under proofs/. Demand 3 assumes what Schedule.antt assumes.
 use mathlib.Core.Path.{_≡_}
 use mathlib.Core.Logic.{_↔_}
-use Prim.Native.Nat.{ℕ, _^_, _<_}
-use mathlib.Core.Bool.{not, _&&_, _||_}
+use Prim.Native.Nat.{ℕ, _<_}
 use mathlib.Core.List.{List, map}
 use mathlib.Core.Option.{none}
 use lib.ListN.{length}
-use lib.Dec.{T, eqb, ltb}
+use lib.Dec.{T}
 use Rattle.octets.specs.Choice.{All}
 use Rattle.sheet.specs.declared.Sheet.{Sheet}
 use Rattle.sheet.specs.Table.{mostSeats}
 use Rattle.sheet.specs.Value.{validAlone}
-use Rattle.reception.specs.declared.Phase.the-variants.{Ending}
-use Rattle.reception.specs.declared.Record.{Record}
-use Rattle.reception.specs.declared.Event.{Event}
-use Rattle.reception.specs.declared.What.{What}
-use Rattle.reception.specs.declared.stream.Rules.{Rules}
-use Rattle.reception.specs.Record.{rulesOf, onSheet, watches, setBit, clearBit, count, sameRecord, legal, own, legalAt, allFree}
-use Rattle.reception.specs.Answer.{Reply, granted, discarded, grant, untouched}
-use Rattle.reception.specs.Table.{ruleFor, senderOn, Answered}
+use Rattle.streams.specs.declared.Phase.the-variants.{Ending}
+use Rattle.streams.specs.declared.Record.{Record}
+use Rattle.streams.specs.declared.Event.{Event}
+use Rattle.streams.specs.Record.{rulesOf, onSheet, count, legal, own, legalAt, allFree}
+use Rattle.streams.specs.Answer.{Reply, discarded, grant, untouched}
+use Rattle.streams.specs.Table.{senderOn, Answered}
 use Rattle.reception.specs.Steps.{gives, refuses, leaving, Try, readOf, attemptOf, workOf, storeOf, countOf}
 use Rattle.reception.specs.Schedule.{Routine, Step, stores, WorkedOut, start, run, taken}
 use Rattle.reception.specs.Serial.{ruled, next, recordsInTurn, answersInTurn}
 use Rattle.reception.specs.History.{ofStream, shownCount}
 
 -- ---- records
-
--- To set a bit sets that bit alone, and to clear one clears that one alone.
-abbrev pub SetsOne : Type 0
-SetsOne = (b r p : ℕ) → watches (setBit b r) p ≡ (eqb p r || watches b p)
-
-abbrev pub ClearsOne : Type 0
-ClearsOne = (b r p : ℕ) → watches (clearBit b r) p ≡ (watches b p && not (eqb p r))
-
--- "no bit of a seat not on the sheet": a byte is below 2 ^ n exactly if each seat that watches is one of n
-abbrev pub OnSheetExactly : Type 0
-OnSheetExactly = (n b : ℕ) → T (ltb b (2 ^ n)) ↔ ((r : ℕ) → T (watches b r) → r < n)
-
--- Two records are the same exactly if they are equal.
-abbrev pub SameExactly : Type 0
-SameExactly = (x y : Record) → T (sameRecord x y) ↔ (x ≡ y)
 
 -- Eight records are legal if each seat on the sheet has a legal one and every other is Free.
 pub record Legal (s : Sheet) (rs : List Record) : Type 0 where
@@ -49,12 +31,6 @@ pub record Legal (s : Sheet) (rs : List Record) : Type 0 where
 -- So are those of streams that are all free.
 abbrev pub StartsLegal : Type 0
 StartsLegal = (s : Sheet) → Legal s allFree
-
--- ---- the table
-
--- A grant is answered exactly where a granted response is sent.
-abbrev pub GrantedExactly : Type 0
-GrantedExactly = (q : Rules) (s : ℕ) (x : Record) (w : What) → (ruleFor q s x w .reply .done ≡ granted) ↔ (ruleFor q s x w .reply .sends ≡ grant)
 
 -- ---- reading and working out
 

@@ -2,46 +2,17 @@
 -- end by that seat and no release of the stream since that seat's latest grant. It goes by the list of events with their answers
 -- alone, seat by seat and by positions. Assumes nothing.
 use Prim.Native.Nat.{ℕ, zero, suc}
-use mathlib.Core.Bool.{Bool, true, false, not, _&&_}
+use mathlib.Core.Bool.{Bool, false, not, _&&_}
 use mathlib.Core.List.{List, [], _∷_, _++_}
 use lib.ListN.{length, drop}
 use lib.Dec.{eqb}
 use Rattle.octets.specs.Choice.{some-of, keep}
 use Rattle.sheet.specs.Table.{mostSeats}
-use Rattle.reception.specs.declared.What.{What}
-use Rattle.reception.specs.declared.What.the-variants.{Request, End, Open, T11, EndResponse, Release}
-use Rattle.reception.specs.Answer.{Done, granted, opened, was}
-use Rattle.reception.specs.Table.{Answered}
+use Rattle.streams.specs.Table.{Answered, grantsAt, undoesAt}
 
 -- the events of one stream
 unfoldable pub ofStream : ℕ → List Answered → List Answered
 ofStream s ts = keep (λ (t : Answered). eqb (t .event .stream) s) ts
-
--- ---- what one event with its answer says of a seat
-
--- seat r asked and was granted
-abbrev pub grants : ℕ → What → Done → Bool
-grants r (Request by) done = eqb by r && was granted done
-grants r (End by) done = false
-grants r Open done = false
-grants r T11 done = false
-grants r (EndResponse asked) done = false
-grants r Release done = false
-
--- an end by it, a release, or an opening that opened
-abbrev pub undoes : ℕ → What → Done → Bool
-undoes r (Request by) done = false
-undoes r (End by) done = eqb by r
-undoes r Open done = was opened done
-undoes r T11 done = false
-undoes r (EndResponse asked) done = false
-undoes r Release done = true
-
-abbrev pub grantsAt : ℕ → Answered → Bool
-grantsAt r t = grants r (t .event .what) (t .reply .done)
-
-abbrev pub undoesAt : ℕ → Answered → Bool
-undoesAt r t = undoes r (t .event .what) (t .reply .done)
 
 -- ---- what the history says of a seat
 

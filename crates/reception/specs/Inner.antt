@@ -2,22 +2,17 @@
 -- Assumes nothing.
 use Prim.Native.Nat.{ℕ}
 use mathlib.Core.Bool.{_&&_}
-use mathlib.Core.List.{List}
 use Rattle.sheet.specs.declared.Sheet.{Sheet}
 use Rattle.sheet.specs.Value.{validAlone}
-use Rattle.reception.specs.declared.Record.{Record}
-use Rattle.reception.specs.declared.Event.{Event}
+use Rattle.streams.specs.declared.Record.{Record}
+use Rattle.streams.specs.declared.Event.{Event}
+use Rattle.streams.specs.declared.stream.Rules.{Rules}
+use Rattle.streams.specs.Record.{rulesOf, onSheet, sameRecord, legal}
+use Rattle.streams.specs.Answer.{Reply}
+use Rattle.streams.specs.Table.{senderOn}
 use Rattle.reception.specs.declared.Admitted.{Admitted}
 use Rattle.reception.specs.declared.Admitted.the-variants.{Under, Refused}
-use Rattle.reception.specs.declared.stream.Rules.{Rules}
-use Rattle.reception.specs.declared.table.Change.{Change}
-use Rattle.reception.specs.Record.{rulesOf, onSheet, sameRecord, legal}
-use Rattle.reception.specs.Answer.{Reply, answerSaid}
-use Rattle.reception.specs.Table.{Ruling, senderOn}
-use Rattle.reception.specs.Steps.{Said, gives, refuses, Left, leaving, check, Try, tryOf, stored, refusalSaid}
-
-abbrev pub changeSaid : Change → Ruling
-changeSaid c = record { becomes = c .becomes; reply = answerSaid (c .answer) }
+use Rattle.reception.specs.Steps.{Said, gives, refuses, check, Try, tryOf, refusalSaid}
 
 -- ---- the checks, one after another
 
@@ -42,11 +37,8 @@ ownSeen q stream x = check (legal q stream x) 9 (gives x)
 abbrev pub triedOn : Rules → Record → Event → Said Try
 triedOn q x e = check (senderOn q (e .what) && legal q (e .stream) x) 9 (gives (tryOf q x e))
 
--- a store where the stream's own record is known and legal
+-- what a store says where the stream's own record is known and legal
 unfoldable pub settled : Rules → Try → Record → Said Reply
 settled q a x =
     let good = legal q (a .stream) in
     check (good (a .seen) && good (a .wanted)) 9 (check (sameRecord x (a .seen)) 10 (gives (a .reply)))
-
-unfoldable pub settledOf : Rules → Try → Record → List Record → Left Reply
-settledOf q a x rs = leaving (stored a rs (settled q a x)) (settled q a x)

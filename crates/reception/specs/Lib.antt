@@ -1,6 +1,3 @@
-pub mod Record
-pub mod Answer
-pub mod Table
 pub mod Steps
 pub mod Schedule
 pub mod Serial

@@ -2,16 +2,16 @@
 -- meet, for every input. Beside it, NAME-once: no second answer meets it. Assumes nothing.
 use mathlib.Core.Path.{_≡_, refl, sym, ap, _∙_}
 use Prim.Native.Nat.{ℕ}
-use mathlib.Core.List.{List, [], _∷_}
-use mathlib.Core.Option.{Option, none, some}
+use mathlib.Core.List.{List, []}
 use Rattle.octets.specs.Promises.{one-answer, one-value}
 use Rattle.sheet.specs.declared.Sheet.{Sheet}
 use Rattle.sheet.specs.declared.Refusal.{Refusal}
-use Rattle.reception.specs.declared.Record.{Record}
-use Rattle.reception.specs.declared.Event.{Event}
+use Rattle.streams.specs.declared.Record.{Record}
+use Rattle.streams.specs.declared.Event.{Event}
+use Rattle.streams.specs.Record.{allFree}
+use Rattle.streams.specs.Answer.{Reply}
+use Rattle.streams.specs.Promises.{answerBack, answer-back}
 use Rattle.reception.specs.declared.Attempt.{Attempt}
-use Rattle.reception.specs.declared.Answer.{Answer}
-use Rattle.reception.specs.declared.Answer.the-variants.{GrantedFirst, Granted, GrantedAgain, Rejected, Ended, EndedLast, Opened, EndRequested, Freed, FreedWithAck, ReleasedIdle, ReleasedWatched, ReleasedEnding, Discarded}
 use Rattle.reception.specs.declared.Seen.{Seen}
 use Rattle.reception.specs.declared.Seen.the-variants.{Read, Refused as SeenRefused}
 use Rattle.reception.specs.declared.Worked.{Worked}
@@ -21,72 +21,9 @@ use Rattle.reception.specs.declared.Taking.the-variants.{Took, Refused a
 use Rattle.reception.specs.declared.Stored.{Stored}
 use Rattle.reception.specs.declared.Counted.{Counted}
 use Rattle.reception.specs.declared.Counted.the-variants.{Count, Refused as CountedRefused}
-use Rattle.reception.specs.Record.{allFree}
-use Rattle.reception.specs.Answer.{Sent, Timer, T3, T5, T6, T11, Timers, Done, granted, rejected, ended, opened, endRequested, freed, released, discarded, Reply, answerSaid}
-use Rattle.reception.specs.Steps.{Said, gives, refuses, Left, leaving, Try, readOf, workOf, storeOf, countOf, seenSaid, attemptSaid, workedSaid, takingSaid, storedSaid, countedSaid}
+use Rattle.reception.specs.Steps.{Said, gives, refuses, Left, leaving, Try, seenOf, readOf, workOf, replyOf, storeOf, counted, countOf, seenSaid, attemptSaid, workedSaid, takingSaid, storedSaid, countedSaid}
 
 -- ---- answers that say the same are the same: from what is said the answer is got back
-
--- the cause of a message, 0 where it has none
-abbrev causeIn : Option Sent → ℕ
-causeIn none = 0
-causeIn (some m) = causeOr (m .cause)
-  where
-    causeOr : Option ℕ → ℕ
-    causeOr none = 0
-    causeOr (some c) = c
-
-abbrev grantBack : List Timer → Answer
-grantBack [] = GrantedAgain
-grantBack (t ∷ []) = Granted
-grantBack (t ∷ u ∷ ts) = GrantedFirst
-
-abbrev endBack : List Timer → Answer
-endBack [] = Ended
-endBack (t ∷ ts) = EndedLast
-
-abbrev freedBack : Option Sent → Answer
-freedBack none = Freed
-freedBack (some m) = FreedWithAck
-
-abbrev releasedBack : List Timer → Answer
-releasedBack [] = ReleasedWatched
-releasedBack (T3 ∷ ts) = ReleasedEnding
-releasedBack (T5 ∷ ts) = ReleasedWatched
-releasedBack (T6 ∷ ts) = ReleasedWatched
-releasedBack (T11 ∷ ts) = ReleasedIdle
-
-abbrev backFrom : Done → Option Sent → Timers → Answer
-backFrom granted m t = grantBack (t .stops)
-backFrom rejected m t = Rejected (causeIn m)
-backFrom ended m t = endBack (t .starts)
-backFrom opened m t = Opened
-backFrom endRequested m t = EndRequested (causeIn m)
-backFrom freed m t = freedBack m
-backFrom released m t = releasedBack (t .stops)
-backFrom discarded m t = Discarded
-
-abbrev answerBack : Reply → Answer
-answerBack r = backFrom (r .done) (r .sends) (r .timers)
-
-answer-back : (a : Answer) → answerBack (answerSaid a) ≡ a
-answer-back GrantedFirst = refl
-answer-back Granted = refl
-answer-back GrantedAgain = refl
-answer-back (Rejected c) = refl
-answer-back Ended = refl
-answer-back EndedLast = refl
-answer-back Opened = refl
-answer-back (EndRequested c) = refl
-answer-back Freed = refl
-answer-back FreedWithAck = refl
-answer-back ReleasedIdle = refl
-answer-back ReleasedWatched = refl
-answer-back ReleasedEnding = refl
-answer-back Discarded = refl
-
-pub answer-apart : (x y : Answer) → answerSaid x ≡ answerSaid y → x ≡ y
-answer-apart x y e = sym (answer-back x) ∙ ap answerBack e ∙ answer-back y
 
 -- from what was asked for or a refusal
 abbrev back : {A B : Type 0} → (A → B) → (Refusal → B) → Said A → B
@@ -120,6 +57,9 @@ taking-back : (x : Taking) → takingBack (takingSaid x) ≡ x
 taking-back (Took a) = rw (answer-back a)
 taking-back (TakingRefused r) = refl
 
+pub taking-apart : (x y : Taking) → takingSaid x ≡ takingSaid y → x ≡ y
+taking-apart x y e = sym (taking-back x) ∙ ap takingBack e ∙ taking-back y
+
 abbrev storedBack : Left Reply → Stored
 storedBack l = record { records = l .records; taking = takingBack (l .said) }
 
@@ -140,6 +80,29 @@ counted-apart x y e = sym (counted-back x) ∙ ap (back Count CountedRefused) e 
 one-left : {A B : Type 0} (said : A → Said B) → ((x y : A) → said x ≡ said y → x ≡ y)
     → {rs : List Record} {b : Left B} (x y : A) → leaving rs (said x) ≡ b → leaving rs (said y) ≡ b → x ≡ y
 one-left said apart x y p q = one-answer said apart x y (ap (λ l. l .said) p) (ap (λ l. l .said) q)
+
+-- ---- the steps, where the stream's own record is at hand
+
+-- the record, or a refusal
+abbrev pub seen≡ : Sheet → Record → ℕ → Seen → Type 0
+seen≡ sheet own stream r = seenSaid r ≡ seenOf sheet stream own
+
+pub seen-once : (sheet : Sheet) (own : Record) (stream : ℕ) (x y : Seen) → seen≡ sheet own stream x → seen≡ sheet own stream y → x ≡ y
+seen-once sheet own stream x y p q = one-answer seenSaid seen-apart x y p q
+
+-- the answer of a store that takes, or a refusal
+abbrev pub settle≡ : Sheet → Attempt → Record → Taking → Type 0
+settle≡ sheet a own r = takingSaid r ≡ replyOf sheet (attemptSaid a) own
+
+pub settle-once : (sheet : Sheet) (a : Attempt) (own : Record) (x y : Taking) → settle≡ sheet a own x → settle≡ sheet a own y → x ≡ y
+settle-once sheet a own x y p q = one-answer takingSaid taking-apart x y p q
+
+-- the count, or a refusal
+abbrev pub counted≡ : Sheet → Record → ℕ → Counted → Type 0
+counted≡ sheet own stream r = countedSaid r ≡ counted (seenOf sheet stream own)
+
+pub counted-once : (sheet : Sheet) (own : Record) (stream : ℕ) (x y : Counted) → counted≡ sheet own stream x → counted≡ sheet own stream y → x ≡ y
+counted-once sheet own stream x y p q = one-answer countedSaid counted-apart x y p q
 
 -- ---- the steps
 

@@ -9,10 +9,10 @@ use mathlib.Core.Option.{Option, none, some}
 use lib.Dec.{eqb}
 use Rattle.octets.specs.Choice.{pick}
 use Rattle.sheet.specs.declared.Sheet.{Sheet}
-use Rattle.reception.specs.declared.Record.{Record}
-use Rattle.reception.specs.declared.Event.{Event}
-use Rattle.reception.specs.Answer.{Reply}
-use Rattle.reception.specs.Table.{Answered}
+use Rattle.streams.specs.declared.Record.{Record}
+use Rattle.streams.specs.declared.Event.{Event}
+use Rattle.streams.specs.Answer.{Reply}
+use Rattle.streams.specs.Table.{Answered}
 use Rattle.reception.specs.Steps.{Said, gives, refuses, Try, readOf, attemptOf, workOf, storeOf}
 
 -- ---- steps

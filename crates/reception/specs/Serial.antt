@@ -1,11 +1,11 @@
 -- Events run one after another, by the event table alone. Assumes nothing.
 use mathlib.Core.List.{List, [], _∷_}
 use lib.ListN.{set}
-use Rattle.reception.specs.declared.Record.{Record}
-use Rattle.reception.specs.declared.Event.{Event}
-use Rattle.reception.specs.declared.stream.Rules.{Rules}
-use Rattle.reception.specs.Record.{own}
-use Rattle.reception.specs.Table.{Ruling, ruleFor, Answered}
+use Rattle.streams.specs.declared.Record.{Record}
+use Rattle.streams.specs.declared.Event.{Event}
+use Rattle.streams.specs.declared.stream.Rules.{Rules}
+use Rattle.streams.specs.Record.{own}
+use Rattle.streams.specs.Table.{Ruling, ruleFor, Answered}
 
 -- the table's row for an event, on the record of its stream
 abbrev pub ruled : Rules → Event → List Record → Ruling

@@ -8,8 +8,12 @@ use Rattle.octets.specs.Choice.{pick}
 use Rattle.sheet.specs.declared.Sheet.{Sheet}
 use Rattle.sheet.specs.declared.Refusal.{Refusal}
 use Rattle.sheet.specs.Value.{validAlone}
-use Rattle.reception.specs.declared.Record.{Record}
-use Rattle.reception.specs.declared.Event.{Event}
+use Rattle.streams.specs.declared.Record.{Record}
+use Rattle.streams.specs.declared.Event.{Event}
+use Rattle.streams.specs.declared.stream.Rules.{Rules}
+use Rattle.streams.specs.Record.{rulesOf, onSheet, own, count, sameRecord, legal}
+use Rattle.streams.specs.Answer.{Reply, answerSaid}
+use Rattle.streams.specs.Table.{ruleFor, senderOn}
 use Rattle.reception.specs.declared.Attempt.{Attempt}
 use Rattle.reception.specs.declared.Seen.{Seen}
 use Rattle.reception.specs.declared.Seen.the-variants.{Read, Refused as SeenRefused}
@@ -20,10 +24,6 @@ use Rattle.reception.specs.declared.Taking.the-variants.{Took, Refused a
 use Rattle.reception.specs.declared.Stored.{Stored}
 use Rattle.reception.specs.declared.Counted.{Counted}
 use Rattle.reception.specs.declared.Counted.the-variants.{Count, Refused as CountedRefused}
-use Rattle.reception.specs.declared.stream.Rules.{Rules}
-use Rattle.reception.specs.Record.{rulesOf, onSheet, own, count, sameRecord, legal}
-use Rattle.reception.specs.Answer.{Reply, answerSaid}
-use Rattle.reception.specs.Table.{ruleFor, senderOn}
 
 -- ---- what a step says and leaves
 

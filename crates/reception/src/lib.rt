@@ -1,75 +1,33 @@
-// Reception control (document 01, "Stream record" and "Three steps"): a record for each stream, and the three steps by which two routines
-// share it: read, work out, store.
-mod receivers;
-mod stream;
-mod table;
-
+// Reception control (document 01, "Three steps"): a record for each stream, and the three steps by which two routines share it: read, work
+// out, store. Records, events and answers are those of `streams`, handed on by their names.
 use sheet::Refusal;
 use sheet::Sheet;
+use sheet::numbers::LIMIT;
+use sheet::numbers::SEATS_LINE;
 use sheet::numbers::are_valid;
 use sheet::numbers::numbers_of;
-use stream::Rules;
+pub use streams::Answer;
+pub use streams::Event;
+pub use streams::Phase;
+pub use streams::Record;
+pub use streams::What;
+use streams::stream;
+use streams::stream::Rules;
+use streams::table;
 ghost use mathlib.Core.Path.{_≡_};
-ghost use Prim.Native.Nat.{_<_, _≤_};
-ghost use Rattle.sheet.specs.Value.{sheetIn};
-ghost use Rattle.reception.specs.Record.{own};
-ghost use Rattle.reception.specs.Steps.{leaving, refusalSaid, seenSaid, attemptSaid, workedSaid, storedSaid};
-ghost use Rattle.reception.specs.Inner.{admittedSaid, admitted, ownSeen, triedOn, settledOf};
-ghost use Rattle.reception.specs.Promises.{all-free≡, read≡, work-out≡, store≡, count≡};
+ghost use Prim.Native.Nat.{_≤_};
+ghost use lib.ListN.{length};
+ghost use Rattle.sheet.specs.Value.{sheetFrom, sheetIn};
+ghost use Rattle.streams.specs.Record.{rulesOf, own};
+ghost use Rattle.reception.specs.Steps.{seenSaid, attemptSaid, workedSaid, takingSaid};
+ghost use Rattle.reception.specs.Inner.{admittedSaid, admitted, ownSeen, triedOn, settled};
+ghost use Rattle.reception.specs.Promises.{all-free≡, seen≡, read≡, work-out≡, settle≡, store≡, counted≡, count≡};
 
 // The most seats that a sheet has, and as many streams.
 const SEATS: usize = 8;
 
-// Where a stream stands.
-pub enum Phase {
-    Free,
-    Idle,
-    Watched,
-    Ending,
-}
-
-// A stream's record: its phase, and a byte with bit r for seat r, which is watching.
-pub struct Record {
-    pub phase: Phase,
-    pub receivers: u8,
-}
-
 // The records of eight streams, one for each seat as transmitter.
 pub type Streams = [Record; SEATS];
-
-// An event on a stream.
-pub struct Event {
-    pub stream: u8,
-    pub what: What,
-}
-
-// What happens: a seat's request or end, an opening, T11 expired, the transmitter's end response, which may ask for an Ack, a release.
-pub enum What {
-    Request(u8),
-    End(u8),
-    Open,
-    T11,
-    EndResponse(bool),
-    Release,
-}
-
-// What an event is answered with. Answers that differ in a timer differ; what each sends, stops and starts: `specs/Answer.antt`.
-pub enum Answer {
-    GrantedFirst,
-    Granted,
-    GrantedAgain,
-    Rejected(u16),
-    Ended,
-    EndedLast,
-    Opened,
-    EndRequested(u16),
-    Freed,
-    FreedWithAck,
-    ReleasedIdle,
-    ReleasedWatched,
-    ReleasedEnding,
-    Discarded,
-}
 
 // What a store is to do: the stream's record as it was seen, as it is wanted, and the answer that is given once the store took.
 pub struct Attempt {
@@ -119,6 +77,17 @@ pub fn all_free() -> Streams
     [stream::free(); SEATS]
 }
 
+// What the rules look at on a sheet whose numbers are lent.
+fn rules_in(numbers: &[u32]) -> Rules
+    requires { ⌜ length (now numbers) ≡ 19 ⌝ }
+    ensures { λ r. ⌜ r ≡ rulesOf (sheetFrom (now (numbers .entry))) ⌝ }
+{
+    Rules {
+        limit: numbers[LIMIT],
+        seats: numbers[SEATS_LINE],
+    }
+}
+
 // What a stream is judged by, if it is on the sheet.
 enum Admitted {
     Under(Rules),
@@ -132,33 +101,48 @@ fn admit(numbers: &[u32], stream: u8) -> Admitted
     if !are_valid(numbers) {
         return Admitted::Refused(refusal(12));
     }
-    let rules = stream::rules_in(numbers);
+    let rules = rules_in(numbers);
     if !stream::is_on(rules, stream) {
         return Admitted::Refused(refusal(9));
     }
     Admitted::Under(rules)
 }
 
-// A stream's own record, or 9 where it is not legal.
-fn own_of(rules: Rules, records: Streams, stream: u8) -> Seen
-    requires { ⌜ (stream < 8) × (rules .seats ≤ 8) ⌝ }
-    ensures { λ r. ⌜ seenSaid r ≡ ownSeen rules stream (own records stream) ⌝ }
+// The own record of a stream on the sheet, or 9 where it is not legal.
+fn judged(rules: Rules, own: Record, stream: u8) -> Seen
+    ensures { λ r. ⌜ seenSaid r ≡ ownSeen rules stream own ⌝ }
 {
-    let own = records[stream as usize];
     if !stream::is_legal(rules, stream, own) {
         return Seen::Refused(refusal(9));
     }
     Seen::Read(own)
 }
 
+// What a read says where the stream's own record is at hand: that record, or 12 line 0 or 9. A sheet's numbers are lent.
+pub fn seen_lent(numbers: &[u32], own: Record, stream: u8) -> Seen
+    ensures { λ r. ⌜ seen≡ (sheetIn (now (numbers .entry))) own stream r ⌝ }
+{
+    match admit(numbers, stream) {
+        Admitted::Under(rules) => judged(rules, own, stream),
+        Admitted::Refused(refusal) => Seen::Refused(refusal),
+    }
+}
+
+// A stream's own record of the eight; past the eighth a free one.
+fn own_of(records: Streams, stream: u8) -> Record
+    ensures { λ r. ⌜ r ≡ own records stream ⌝ }
+{
+    if SEATS <= stream as usize {
+        return stream::free();
+    }
+    records[stream as usize]
+}
+
 // The record of a stream, or 12 line 0 or 9, a sheet's numbers lent.
 pub fn read_lent(numbers: &[u32], records: Streams, stream: u8) -> Seen
     ensures { λ r. ⌜ read≡ (sheetIn (now (numbers .entry))) records stream r ⌝ }
 {
-    match admit(numbers, stream) {
-        Admitted::Under(rules) => own_of(rules, records, stream),
-        Admitted::Refused(refusal) => Seen::Refused(refusal),
-    }
+    seen_lent(numbers, own_of(records, stream), stream)
 }
 
 // The same, the sheet by value.
@@ -171,7 +155,7 @@ pub fn read(sheet: Sheet, records: Streams, stream: u8) -> Seen
 
 // What an event makes of the record seen, or 9 where its sender is not on the sheet or the record is not legal.
 fn attempt_on(rules: Rules, seen: Record, event: Event) -> Worked
-    requires { ⌜ (event .stream < 8) × (rules .seats ≤ 8) ⌝ }
+    requires { ⌜ rules .seats ≤ 8 ⌝ }
     ensures { λ r. ⌜ workedSaid r ≡ triedOn rules seen event ⌝ }
 {
     let stream = event.stream;
@@ -211,39 +195,33 @@ pub fn work_out(sheet: Sheet, seen: Record, event: Event) -> Worked
     work_out_lent(&numbers[..], seen, event)
 }
 
-// The records as they were, and why.
-fn unchanged(records: Streams, refusal: Refusal) -> Stored
-    ensures { λ r. ⌜ storedSaid r ≡ leaving records (refusalSaid refusal) ⌝ }
-{
-    Stored {
-        records,
-        taking: Taking::Refused(refusal),
-    }
-}
-
-// Stores an attempt where the stream's own record is known and legal.
-fn settle(rules: Rules, attempt: Attempt, own: Record, records: Streams) -> Stored
-    requires { ⌜ (attempt .stream < 8) × (rules .seats ≤ 8) ⌝ }
-    ensures { λ r. ⌜ storedSaid r ≡ settledOf rules (attemptSaid attempt) own records ⌝ }
+// What a store says where the stream's own record is known and legal.
+fn settle(rules: Rules, attempt: Attempt, own: Record) -> Taking
+    ensures { λ r. ⌜ takingSaid r ≡ settled rules (attemptSaid attempt) own ⌝ }
 {
     let stream = attempt.stream;
     let seen = attempt.seen;
     let wanted = attempt.wanted;
     let answer = attempt.answer;
     if !stream::is_legal(rules, stream, seen) {
-        return unchanged(records, refusal(9));
+        return Taking::Refused(refusal(9));
     }
     if !stream::is_legal(rules, stream, wanted) {
-        return unchanged(records, refusal(9));
+        return Taking::Refused(refusal(9));
     }
     if !stream::is_same(own, seen) {
-        return unchanged(records, refusal(10));
+        return Taking::Refused(refusal(10));
     }
-    let mut after = records;
-    after[stream as usize] = wanted;
-    Stored {
-        records: after,
-        taking: Taking::Took(answer),
+    Taking::Took(answer)
+}
+
+// What a store says where the stream's own record is at hand: the attempt's answer, or 12 line 0, 9 or 10. A sheet's numbers are lent.
+pub fn settle_lent(numbers: &[u32], attempt: Attempt, own: Record) -> Taking
+    ensures { λ r. ⌜ settle≡ (sheetIn (now (numbers .entry))) attempt own r ⌝ }
+{
+    match seen_lent(numbers, own, attempt.stream) {
+        Seen::Read(own) => settle(rules_in(numbers), attempt, own),
+        Seen::Refused(refusal) => Taking::Refused(refusal),
     }
 }
 
@@ -252,9 +230,22 @@ fn settle(rules: Rules, attempt: Attempt, own: Record, records: Streams) -> Stor
 pub fn store_lent(numbers: &[u32], attempt: Attempt, records: Streams) -> Stored
     ensures { λ r. ⌜ store≡ (sheetIn (now (numbers .entry))) attempt records r ⌝ }
 {
-    match read_lent(numbers, records, attempt.stream) {
-        Seen::Read(own) => settle(stream::rules_in(numbers), attempt, own, records),
-        Seen::Refused(refusal) => unchanged(records, refusal),
+    let stream = attempt.stream;
+    let wanted = attempt.wanted;
+    let own = own_of(records, stream);
+    match settle_lent(numbers, attempt, own) {
+        Taking::Took(answer) => {
+            let mut after = records;
+            after[stream as usize] = wanted;
+            Stored {
+                records: after,
+                taking: Taking::Took(answer),
+            }
+        }
+        Taking::Refused(refusal) => Stored {
+            records,
+            taking: Taking::Refused(refusal),
+        },
     }
 }
 
@@ -266,14 +257,21 @@ pub fn store(sheet: Sheet, attempt: Attempt, records: Streams) -> Stored
     store_lent(&numbers[..], attempt, records)
 }
 
-// C11, the number of seats that watch a stream, or 12 line 0 or 9, a sheet's numbers lent.
-pub fn count_lent(numbers: &[u32], records: Streams, stream: u8) -> Counted
-    ensures { λ r. ⌜ count≡ (sheetIn (now (numbers .entry))) records stream r ⌝ }
+// C11, the number of seats that watch a stream whose own record is at hand, or 12 line 0 or 9. A sheet's numbers are lent.
+pub fn counted_lent(numbers: &[u32], own: Record, stream: u8) -> Counted
+    ensures { λ r. ⌜ counted≡ (sheetIn (now (numbers .entry))) own stream r ⌝ }
 {
-    match read_lent(numbers, records, stream) {
+    match seen_lent(numbers, own, stream) {
         Seen::Read(own) => Counted::Count(stream::count_of(own)),
         Seen::Refused(refusal) => Counted::Refused(refusal),
     }
+}
+
+// The same of one of eight records.
+pub fn count_lent(numbers: &[u32], records: Streams, stream: u8) -> Counted
+    ensures { λ r. ⌜ count≡ (sheetIn (now (numbers .entry))) records stream r ⌝ }
+{
+    counted_lent(numbers, own_of(records, stream), stream)
 }
 
 // The same, the sheet by value.

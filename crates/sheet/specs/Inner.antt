@@ -1,28 +1,17 @@
 -- What the inner functions say of the lines and rows that they look at. The public promises rest on these, and nobody need
 -- believe them: each is only a step of a proof. Assumes nothing.
 use mathlib.Core.Path.{_≡_}
-use Prim.Native.Nat.{ℕ, _+_, _-_, _≤_, _<_, min}
-use mathlib.Core.Bool.{Bool, true, false, _&&_}
+use Prim.Native.Nat.{ℕ, _<_}
+use mathlib.Core.Bool.{Bool, false, not, _&&_}
 use mathlib.Core.List.{List, []}
-use mathlib.Core.Option.{Option, none, some}
-use lib.ListN.{length, getD, take, drop}
-use lib.Dec.{T, leb, eqb}
-use Rattle.octets.specs.Choice.{pick, same, begins, front}
-use Rattle.octets.specs.Text.{ascii}
+use lib.ListN.{length, getD, take}
+use lib.Dec.{leb, eqb}
+use Rattle.octets.specs.Choice.{pick, same, keep}
 use Rattle.sheet.specs.declared.table.Rule.{Rule}
-use Rattle.sheet.specs.declared.line.Line.{Line}
-use Rattle.sheet.specs.declared.line.Line.the-variants.{Good, Bad}
-use Rattle.sheet.specs.declared.line.Rest.{Rest}
-use Rattle.sheet.specs.declared.line.Rest.the-variants.{Good as GoodTail, Bad as BadTail}
-use Rattle.sheet.specs.Table.{Row, rowAt, numberLines}
-use Rattle.sheet.specs.Line.{visible, tailOf, lineOf, entryIn}
-use Rattle.sheet.specs.Judge.{goodNumber, userId}
+use Rattle.sheet.specs.Table.{rowAt}
+use Rattle.sheet.specs.Judge.{taken}
 use Rattle.sheet.specs.Value.{rowOf, nameOf}
-use Rattle.sheet.specs.Find.{seatOfUser}
-
--- the keys as the code holds them, one behind the other
-unfoldable pub keys : List ℕ
-keys = ascii "server=limit=request=response=endrequest=endresponse=txend=txendresponse=ack=resultid=seats=seat="
+use Rattle.sheet.specs.Find.{newName}
 
 -- no line before line j is of this family
 abbrev pub NoneBefore : ℕ → ℕ → Type 0
@@ -34,47 +23,34 @@ pub record RuleOf (k : ℕ) (r : Rule) : Type 0 where
   pub greatest : r .greatest ≡ rowAt k .greatest
   pub family : r .family ≡ rowAt k .family
   pub eldest : NoneBefore (r .eldest) (rowAt k .family)
-  pub named : r .named ≡ rowAt k .named
-  pub ordered : r .from ≤ r .end
-  pub within : r .end ≤ length keys
-  pub key : take (r .end - r .from) (drop (r .from) keys) ≡ rowAt k .key
 
--- numbers are told apart as far as this
+-- a number from the least to the greatest; within the bounds of line k
+abbrev pub between : ℕ → ℕ → ℕ → Bool
+between least greatest n = leb least n && leb n greatest
+
+abbrev pub within : ℕ → ℕ → Bool
+within k n = between (rowAt k .least) (rowAt k .greatest) n
+
+-- line k of a sheet of so many lines: a number that no line of the family before it has; behind the sheet's lines, 0
+unfoldable pub apart : ℕ → ℕ → List ℕ → ℕ → Bool
+apart family lines ns k =
+    pick (leb lines k) (eqb (getD ns k 0) 0) (not (taken family (getD ns k 0) 0 (take k ns)))
+
+-- every number that a line may have is below this
 abbrev pub cap : ℕ
 cap = 4294967296
 
--- a name stands from place a up to place e, where its line's LF stands
-pub record NameAt (t : List ℕ) (a e : ℕ) (name : List ℕ) : Type 0 where
-  pub from : a ≤ e
-  pub within : e < length t
-  pub octets : take (e - a) (drop a t) ≡ name
+-- an octet of a name
+abbrev pub nonzero : ℕ → Bool
+nonzero c = not (eqb c 0)
 
--- the User ID behind a number, where the row has one
-abbrev pub tailName : Row → List ℕ → List ℕ
-tailName r s = pick (r .named) (front visible (drop 1 s)) []
+-- how many such octets a row has
+abbrev pub filled : List ℕ → ℕ
+filled row = length (keep nonzero row)
 
-unfoldable pub TailIs : List ℕ → ℕ → Row → Rest → Type 0
-TailIs t at r (GoodTail a e) =
-    T (begins (tailOf r (tailName r (drop at t))) (drop at t))
-    × NameAt t a e (tailName r (drop at t))
-    × (e + 1 ≡ at + length (tailOf r (tailName r (drop at t))))
-TailIs t at r BadTail = begins (tailOf r (tailName r (drop at t))) (drop at t) ≡ false
-
-unfoldable pub LineIs : List ℕ → ℕ → Row → Line → Type 0
-LineIs t at r (Good n a e) =
-    T (begins (lineOf r (entryIn r (drop at t))) (drop at t))
-    × (n ≡ min (entryIn r (drop at t) .number) cap)
-    × NameAt t a e (entryIn r (drop at t) .name)
-    × (e + 1 ≡ at + length (lineOf r (entryIn r (drop at t))))
-LineIs t at r Bad = begins (lineOf r (entryIn r (drop at t))) (drop at t) ≡ false
-
-abbrev pub isNone : Option ℕ → Bool
-isNone none = true
-isNone (some n) = false
-
--- a name that can be a User ID and that none of the first seats has
-unfoldable pub newName : ℕ → List (List ℕ) → List ℕ → Bool
-newName seats users name = userId name && isNone (seatOfUser seats users name)
+-- no row before row s is the same
+abbrev pub NewRow : List (List ℕ) → ℕ → Type 0
+NewRow users s = (i : ℕ) → i < s → same (getD users i []) (getD users s []) ≡ false
 
 -- a row as it has to be under so many seats: a new name at fixed width, or none
 unfoldable pub goodRow : ℕ → List (List ℕ) → ℕ → Bool
@@ -82,18 +58,3 @@ goodRow seats users s =
     let row = getD users s [] in
     same row (rowOf (nameOf row))
     && pick (leb seats s) (eqb (length (nameOf row)) 0) (newName s users (nameOf row))
-
--- line k is good behind lines with these numbers and these User IDs
-unfoldable pub goodAt : List ℕ → ℕ → ℕ → List ℕ → List (List ℕ) → Bool
-goodAt t at k numbers users =
-    let e = entryIn (rowAt k) (drop at t) in
-    begins (lineOf (rowAt k) e) (drop at t)
-    && (goodNumber (take k numbers) (e .number) && pick (leb numberLines k) (newName (k - numberLines) users (e .name)) true)
-
-unfoldable pub JudgedIs : List ℕ → ℕ → ℕ → List ℕ → List (List ℕ) → Line → Type 0
-JudgedIs t at k numbers users (Good n a e) =
-    T (goodAt t at k numbers users)
-    × (n ≡ entryIn (rowAt k) (drop at t) .number)
-    × NameAt t a e (entryIn (rowAt k) (drop at t) .name)
-    × (e + 1 ≡ at + length (lineOf (rowAt k) (entryIn (rowAt k) (drop at t))))
-JudgedIs t at k numbers users Bad = goodAt t at k numbers users ≡ false

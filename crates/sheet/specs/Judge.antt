@@ -6,7 +6,11 @@ use lib.ListN.{length, getD}
 use lib.Dec.{leb, eqb}
 use Rattle.octets.specs.Choice.{pick, same, every, some-of}
 use Rattle.sheet.specs.Table.{rowAt, numberLines, seatsLine}
-use Rattle.sheet.specs.Line.{Entry, visible, longestName}
+
+-- what a line holds: its number and, on a seat's line, the User ID
+pub record Entry : Type 0 where
+  pub number : ℕ
+  pub name : List ℕ
 
 abbrev pub numbersIn : List Entry → List ℕ
 numbersIn es = map (λ (e : Entry). e .number) es
@@ -24,6 +28,14 @@ unfoldable pub goodNumber : List ℕ → ℕ → Bool
 goodNumber before n =
     let r = rowAt (length before) in
     leb (r .least) n && (leb n (r .greatest) && not (taken (r .family) n 0 before))
+
+-- an octet of a User ID: "each 0x21 to 0x7E"
+abbrev pub visible : ℕ → Bool
+visible c = leb 0x21 c && leb c 0x7E
+
+-- "1 to 60 octets"
+abbrev pub longestName : ℕ
+longestName = 60
 
 -- "User ID (6): 1 to 60 octets, each 0x21 to 0x7E"
 unfoldable pub userId : List ℕ → Bool

@@ -1,7 +1,5 @@
 pub mod Table
-pub mod Line
 pub mod Judge
-pub mod Reading
 pub mod Value
 pub mod Find
 pub mod Inner

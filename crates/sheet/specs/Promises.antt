@@ -1,34 +1,19 @@
 -- What each public function promises, one predicate a function, NAME≡: the equation that its answer meets, for every input.
 -- Beside it, NAME-once: no second answer meets it. Assumes nothing.
 use mathlib.Core.Path.{_≡_, refl}
-use Prim.Native.Nat.{ℕ}
+use Prim.Native.Nat.{ℕ, _+_}
 use mathlib.Core.Bool.{Bool}
 use mathlib.Core.List.{List, _++_}
-use lib.ListN.{length}
-use Rattle.octets.specs.Choice.{same}
+use lib.ListN.{length, drop}
+use Rattle.octets.specs.Choice.{same, front}
 use Rattle.octets.specs.Promises.{one-answer, one-value}
 use Rattle.sheet.specs.declared.Sheet.{Sheet}
-use Rattle.sheet.specs.declared.Reading.{Reading}
 use Rattle.sheet.specs.declared.Senders.{Senders}
 use Rattle.sheet.specs.declared.Found.{Found}
 use Rattle.sheet.specs.declared.Found.the-variants.{Seat, Nobody}
-use Rattle.sheet.specs.Judge.{userId}
-use Rattle.sheet.specs.Value.{readOf, usersIn, nameOf, numbersOf, sheetIn, validAlone, validWith}
-use Rattle.sheet.specs.Find.{foundSaid, seatOfSsrc, seatOfUser}
-
--- the value and the octets used, or 12 with its line
-abbrev pub read≡ : List ℕ → Reading → Type 0
-read≡ text r = r ≡ readOf text
-
-pub read-once : (text : List ℕ) (x y : Reading) → read≡ text x → read≡ text y → x ≡ y
-read-once text x y p q = one-value x y p q
-
--- the User IDs of the same sheet, all zeros beside a refusal
-abbrev pub users≡ : List ℕ → List (List ℕ) → Type 0
-users≡ text r = r ≡ usersIn text
-
-pub users-once : (text : List ℕ) (x y : List (List ℕ)) → users≡ text x → users≡ text y → x ≡ y
-users-once text x y p q = one-value x y p q
+use Rattle.sheet.specs.Judge.{goodNumber, visible, userId}
+use Rattle.sheet.specs.Value.{nameOf, numbersOf, sheetIn, validAlone, validWith}
+use Rattle.sheet.specs.Find.{foundSaid, seatOfSsrc, seatOfUser, newName}
 
 -- some sheet reads to this struct
 abbrev pub valid≡ : Sheet → Bool → Type 0
@@ -64,6 +49,20 @@ are-valid-with≡ numbers users r = r ≡ validWith (sheetIn numbers) users
 
 pub are-valid-with-once : (numbers : List ℕ) (users : List (List ℕ)) (x y : Bool) → are-valid-with≡ numbers users x → are-valid-with≡ numbers users y → x ≡ y
 are-valid-with-once numbers users x y p q = one-value x y p q
+
+-- a number may stand on the line behind these
+abbrev pub is-good-number≡ : List ℕ → ℕ → Bool → Type 0
+is-good-number≡ earlier n r = r ≡ goodNumber earlier n
+
+pub is-good-number-once : (earlier : List ℕ) (n : ℕ) (x y : Bool) → is-good-number≡ earlier n x → is-good-number≡ earlier n y → x ≡ y
+is-good-number-once earlier n x y p q = one-value x y p q
+
+-- where the visible octets at a place end
+abbrev pub visible-end≡ : List ℕ → ℕ → ℕ → Type 0
+visible-end≡ text at r = r ≡ at + length (front visible (drop at text))
+
+pub visible-end-once : (text : List ℕ) (at x y : ℕ) → visible-end≡ text at x → visible-end≡ text at y → x ≡ y
+visible-end-once text at x y p q = one-value x y p q
 
 -- these octets can be a User ID
 abbrev pub is-user-id≡ : List ℕ → Bool → Type 0
@@ -106,3 +105,10 @@ by-user≡ seats users name r = foundSaid r ≡ seatOfUser seats users name
 
 pub by-user-once : (seats : ℕ) (users : List (List ℕ)) (name : List ℕ) (x y : Found) → by-user≡ seats users name x → by-user≡ seats users name y → x ≡ y
 by-user-once seats users name x y p q = one-answer foundSaid found-apart x y p q
+
+-- a name that can be a User ID and that none of the first seats has
+abbrev pub is-new-name≡ : ℕ → List (List ℕ) → List ℕ → Bool → Type 0
+is-new-name≡ seats users name r = r ≡ newName seats users name
+
+pub is-new-name-once : (seats : ℕ) (users : List (List ℕ)) (name : List ℕ) (x y : Bool) → is-new-name≡ seats users name x → is-new-name≡ seats users name y → x ≡ y
+is-new-name-once seats users name x y p q = one-value x y p q

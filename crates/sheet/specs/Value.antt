@@ -8,12 +8,8 @@ use lib.Dec.{eqb}
 use Rattle.octets.specs.Choice.{pick, same, front}
 use Rattle.octets.specs.Buffer.{padded}
 use Rattle.sheet.specs.declared.Sheet.{Sheet}
-use Rattle.sheet.specs.declared.Refusal.{Refusal}
-use Rattle.sheet.specs.declared.Reading.{Reading}
 use Rattle.sheet.specs.Table.{numberLines, mostSeats}
-use Rattle.sheet.specs.Line.{Entry, longestName, textOf}
-use Rattle.sheet.specs.Judge.{numbersIn, namesIn, goodNumber, inTurn, valid, whole}
-use Rattle.sheet.specs.Reading.{Outcome, reads, refused, outcome}
+use Rattle.sheet.specs.Judge.{Entry, numbersIn, namesIn, goodNumber, longestName, inTurn, valid, whole}
 
 -- ---- the entries laid out as a value
 
@@ -108,28 +104,3 @@ unfoldable pub validAlone : Sheet → Bool
 validAlone s =
     let ns = numbersOf s ++ take (s .seats) (s .ssrcs) in
     inTurn goodNumber [] ns && (whole ns && same (s .ssrcs) (sheetFrom ns .ssrcs))
-
--- ---- what reading gives
-
-abbrev pub noRefusal : Refusal
-noRefusal = record { number = 0; at = 0 }
-
--- 12, "sheet, with the number of its first bad or missing line, from 1"
-abbrev pub badLine : ℕ → Refusal
-badLine k = record { number = 12; at = k }
-
--- the value and "how many octets were used"; beside a refusal everything is zero
-unfoldable pub readingOf : Outcome → Reading
-readingOf (reads es) = record { sheet = sheetOf es; used = length (textOf es); refusal = noRefusal }
-readingOf (refused k) = record { sheet = sheetOf []; used = 0; refusal = badLine k }
-
--- the User IDs, likewise
-unfoldable pub usersFrom : Outcome → List (List ℕ)
-usersFrom (reads es) = usersOf es
-usersFrom (refused k) = usersOf []
-
-unfoldable pub readOf : List ℕ → Reading
-readOf t = readingOf (outcome t)
-
-unfoldable pub usersIn : List ℕ → List (List ℕ)
-usersIn t = usersFrom (outcome t)

@@ -4,7 +4,8 @@ use super::SEATS;
 use super::Senders;
 use super::Users;
 use super::user::has_name;
-ghost use Rattle.sheet.specs.Promises.{by-ssrc≡, by-user≡};
+use super::user::is_user_id;
+ghost use Rattle.sheet.specs.Promises.{by-ssrc≡, by-user≡, is-new-name≡};
 
 // Seats count from 0 up to this.
 const END: u8 = SEATS as u8;
@@ -40,10 +41,24 @@ pub fn by_user(seats: u32, users: &Users, name: &[u8]) -> Found
             return Found::Nobody;
         }
         let i = s as usize;
-        if has_name(&rows[i][..], &name[..]) {
+        if has_name(&rows[i][..], name) {
             return Found::Seat(s);
         }
         s += 1;
     }
     Found::Nobody
+}
+
+// Whether a name can be a User ID and none of the first seats has it.
+pub fn is_new_name(seats: u32, users: &Users, name: &[u8]) -> bool
+    ensures { λ r. ⌜ is-new-name≡ seats (now (users .entry)) (now (name .entry)) r ⌝ }
+{
+    if !is_user_id(name) {
+        return false;
+    }
+    let found = by_user(seats, users, name);
+    match found {
+        Found::Seat(_) => false,
+        Found::Nobody => true,
+    }
 }

@@ -1,14 +1,14 @@
-// The call sheet (document 01, "Call sheet"): read from text, and judged as a value.
+// The call sheet as a value (document 01, "Call sheet"): what each line may say, and whose SSRC and User ID it is.
 pub mod find;
 mod line;
-mod number;
+pub mod number;
 pub mod numbers;
-mod scan;
+mod row;
 mod seat;
 mod table;
 pub mod user;
 
-ghost use Rattle.sheet.specs.Promises.{read≡, users≡, valid≡, valid-with≡};
+ghost use Rattle.sheet.specs.Promises.{valid≡, valid-with≡};
 
 // The numbers of the sheet, in the order of its lines, and the SSRC of each seat; an unused one is 0.
 pub struct Sheet {
@@ -27,13 +27,10 @@ pub struct Sheet {
 }
 
 // The most seats that a sheet has.
-const SEATS: usize = 8;
-
-// The same, as the sheet's own number.
-const MOST_SEATS: u32 = SEATS as u32;
+pub const SEATS: usize = 8;
 
 // The most octets of a User ID.
-const WIDTH: usize = 60;
+pub const WIDTH: usize = 60;
 
 // The User IDs of eight seats, 60 octets each; unused octets are zero.
 pub type Users = [[u8; WIDTH]; SEATS];
@@ -42,13 +39,6 @@ pub type Users = [[u8; WIDTH]; SEATS];
 pub struct Refusal {
     pub number: u32,
     pub at: u32,
-}
-
-// A sheet and how many octets it took, or a refusal beside zeros.
-pub struct Reading {
-    pub sheet: Sheet,
-    pub used: usize,
-    pub refusal: Refusal,
 }
 
 // What a search by SSRC looks at.
@@ -61,27 +51,6 @@ pub struct Senders {
 pub enum Found {
     Seat(u8),
     Nobody,
-}
-
-// Reads a sheet from the front of a text: the value and the octets used, or 12 with the first bad or missing line.
-pub fn read(text: &[u8]) -> Reading
-    ensures { λ r. ⌜ read≡ (now (text .entry)) r ⌝ }
-{
-    let mut users = [[0u8; WIDTH]; SEATS];
-    scan::scan(text, &mut users)
-}
-
-// The User IDs of the sheet at the front of a text; all zeros where the sheet is refused.
-pub fn users(text: &[u8]) -> Users
-    ensures { λ r. ⌜ users≡ (now (text .entry)) r ⌝ }
-{
-    let mut users = [[0u8; WIDTH]; SEATS];
-    let reading = scan::scan(text, &mut users);
-    let refusal = reading.refusal;
-    if refusal.number == 0 {
-        return users;
-    }
-    [[0u8; WIDTH]; SEATS]
 }
 
 // Whether some sheet reads to this struct.

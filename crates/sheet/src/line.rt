@@ -1,190 +1,74 @@
-// One line of a sheet as text (document 01, "Call sheet"): key, number, on a seat's line a comma and a User ID, then LF.
-use super::table::KEYS;
+// A sheet's numbers, line by line, by the table's bounds and families (document 01, "Call sheet").
+use super::numbers::NUMBER_LINES;
 use super::table::Rule;
+use super::table::is_within;
 use super::table::rule_of;
 ghost use mathlib.Core.Path.{_≡_};
-ghost use mathlib.Core.List.{[], _∷_};
-ghost use Prim.Native.Nat.{_+_, _-_, _<_, _≤_, min};
-ghost use lib.ListN.{length, take, drop};
-ghost use Rattle.octets.specs.Choice.{begins, front};
-ghost use Rattle.octets.specs.Text.{digit, valueOf, plain};
-ghost use Rattle.sheet.specs.Table.{rowAt};
-ghost use Rattle.sheet.specs.Line.{visible};
-ghost use Rattle.sheet.specs.Inner.{cap, keys, LineIs, TailIs};
+ghost use mathlib.Core.Logic.{_↔_};
+ghost use Prim.Native.Nat.{ℕ, _≤_, _<_};
+ghost use lib.Dec.{T};
+ghost use lib.ListN.{length, getD};
+ghost use Rattle.sheet.specs.Table.{numberLines, rowAt};
+ghost use Rattle.sheet.specs.Judge.{taken};
+ghost use Rattle.sheet.specs.Inner.{NoneBefore, within, apart};
 
-// Numbers are told apart as far as this; every number that a line may have is below it.
-const CAP: u64 = 4294967296;
-
-const LF: u8 = 10;
-
-// A line that was found: its number, as far as CAP, the place of its User ID and that of its LF; or that there is none.
-pub enum Line {
-    Good {
-        number: u64,
-        name: usize,
-        end: usize,
-    },
-    Bad,
-}
-
-// Digits that were found: the number that they make, as far as CAP, and where they end.
-struct Decimal {
-    number: u64,
-    end: usize,
-}
-
-// What was found behind a number: the place of the User ID and that of the LF; or that it is not right.
-enum Rest {
-    Good { name: usize, end: usize },
-    Bad,
-}
-
-// Whether the octets of key stand at a place.
-fn stands_at(text: &[u8], at: usize, key: &[u8]) -> bool
-    ensures { λ r. ⌜ r ≡ begins (now (key .entry)) (drop at (now (text .entry))) ⌝ }
+// Whether each line with a number alone is within its bounds.
+pub fn are_within(numbers: &[u32]) -> bool
+    requires { ⌜ numberLines ≤ length (now numbers) ⌝ }
+    ensures { λ r. ⌜ T r ↔ ((k : ℕ) → k < numberLines → T (within k (getD (now (numbers .entry)) k 0))) ⌝ }
 {
-    if text.len() < at {
-        return key.len() == 0;
-    }
-    if text.len() - at < key.len() {
-        return false;
-    }
-    let mut i = 0;
-    while i < key.len() {
-        if text[at + i] != key[i] {
+    let mut k = 0;
+    while k < NUMBER_LINES {
+        if !is_within(rule_of(k), numbers[k] as u64) {
             return false;
         }
-        i += 1;
+        k += 1;
     }
     true
 }
 
-// Whether the key of a rule stands at a place.
-fn has_key(text: &[u8], at: usize, rule: Rule) -> bool
-    requires { ⌜ (rule .from ≤ rule .end) × (rule .end ≤ length keys) ⌝ }
-    ensures { λ b. ⌜ b ≡ begins (take (rule .end - rule .from) (drop (rule .from) keys)) (drop at (now (text .entry))) ⌝ }
+// Whether one of these lines, the first of a sheet, has this number in this family, of which none is before the eldest.
+pub fn is_taken(earlier: &[u32], family: u8, eldest: usize, n: u32) -> bool
+    requires { ⌜ NoneBefore eldest family ⌝ }
+    ensures { λ r. ⌜ r ≡ taken family n 0 (now (earlier .entry)) ⌝ }
 {
-    let from = rule.from;
-    let end = rule.end;
-    let octets = KEYS;
-    stands_at(text, at, &octets[from..end])
-}
-
-// "decimal": 0 to 9.
-fn is_digit(c: u8) -> bool
-    ensures { λ r. ⌜ r ≡ digit c ⌝ }
-{
-    if c < b'0' { false } else { c <= b'9' }
-}
-
-// The number that the digits at a place make, as far as CAP, and where they end.
-fn digits(text: &[u8], at: usize) -> Decimal
-    ensures { λ r. ⌜ (r .end ≡ at + length (front digit (drop at (now (text .entry)))))
-        × (r .number ≡ min (valueOf (front digit (drop at (now (text .entry))))) cap) ⌝ }
-{
-    let mut number: u64 = 0;
-    let mut i = at;
-    while i < text.len() {
-        let c = text[i];
-        if !is_digit(c) {
-            return Decimal { number, end: i };
+    let mut j = eldest;
+    while j < earlier.len() {
+        if earlier[j] == n {
+            let rule = rule_of(j);
+            if rule.family == family {
+                return true;
+            }
         }
-        let next = number * 10 + ((c - b'0') as u64);
-        number = if CAP < next { CAP } else { next };
-        i += 1;
+        j += 1;
     }
-    Decimal { number, end: i }
+    false
 }
 
-// Whether the octets from a place to an end have no leading zero, and are not none.
-fn is_plain(text: &[u8], at: usize, end: usize) -> bool
-    requires { ⌜ (at ≤ end) × (end ≤ length (now text)) ⌝ }
-    ensures { λ r. ⌜ r ≡ plain (take (end - at) (drop at (now (text .entry)))) ⌝ }
+// Whether line k of a sheet of so many lines has a number that is not taken in the rule's family, or is behind them and 0.
+fn is_apart(numbers: &[u32], lines: usize, rule: Rule, k: usize) -> bool
+    requires { ⌜ (k < length (now numbers)) × NoneBefore (rule .eldest) (rule .family) ⌝ }
+    ensures { λ r. ⌜ r ≡ apart (rule .family) lines (now (numbers .entry)) k ⌝ }
 {
-    if end == at {
-        return false;
+    let n = numbers[k];
+    if lines <= k {
+        return n == 0;
     }
-    if end - at == 1 {
-        return true;
-    }
-    text[at] != b'0'
+    !is_taken(&numbers[..k], rule.family, rule.eldest, n)
 }
 
-// Whether an octet stands at a place.
-fn is_at(text: &[u8], at: usize, c: u8) -> bool
-    ensures { λ r. ⌜ r ≡ begins (c ∷ []) (drop at (now (text .entry))) ⌝ }
+// Whether each line from `first` on, up to `end`, is apart so in the family of the first.
+pub fn are_apart(numbers: &[u32], lines: usize, first: usize, end: usize) -> bool
+    requires { ⌜ end ≤ length (now numbers) ⌝ }
+    ensures { λ r. ⌜ T r ↔ ((k : ℕ) → k < end → first ≤ k → T (apart (rowAt first .family) lines (now (numbers .entry)) k)) ⌝ }
 {
-    if at < text.len() {
-        text[at] == c
-    } else {
-        false
-    }
-}
-
-// "each 0x21 to 0x7E".
-fn is_visible(c: u8) -> bool
-    ensures { λ r. ⌜ r ≡ visible c ⌝ }
-{
-    if c < 0x21 { false } else { c <= 0x7E }
-}
-
-// Where the visible octets at a place end.
-pub fn visible_end(text: &[u8], at: usize) -> usize
-    ensures { λ r. ⌜ r ≡ at + length (front visible (drop at (now (text .entry)))) ⌝ }
-{
-    let mut i = at;
-    while i < text.len() {
-        if !is_visible(text[i]) {
-            return i;
+    let rule = rule_of(first);
+    let mut k = first;
+    while k < end {
+        if !is_apart(numbers, lines, rule, k) {
+            return false;
         }
-        i += 1;
+        k += 1;
     }
-    i
-}
-
-// What follows a number: LF, or on a seat's line the comma, a User ID and LF.
-fn tail(text: &[u8], at: usize, k: usize) -> Rest
-    requires { ⌜ at ≤ length (now text) ⌝ }
-    ensures { λ found. ⌜ TailIs (now (text .entry)) at (rowAt k) found ⌝ }
-{
-    let rule = rule_of(k);
-    if !rule.named {
-        if is_at(text, at, LF) {
-            return Rest::Good { name: at, end: at };
-        }
-        return Rest::Bad;
-    }
-    if !is_at(text, at, b',') {
-        return Rest::Bad;
-    }
-    let name = at + 1;
-    let end = visible_end(text, name);
-    if is_at(text, end, LF) {
-        Rest::Good { name, end }
-    } else {
-        Rest::Bad
-    }
-}
-
-// The line at a place, as line k.
-pub fn line_at(text: &[u8], at: usize, k: usize) -> Line
-    requires { ⌜ at ≤ length (now text) ⌝ }
-    ensures { λ found. ⌜ LineIs (now (text .entry)) at (rowAt k) found ⌝ }
-{
-    let rule = rule_of(k);
-    if !has_key(text, at, rule) {
-        return Line::Bad;
-    }
-    let start = at + (rule.end - rule.from);
-    let found = digits(text, start);
-    let number = found.number;
-    let end = found.end;
-    if !is_plain(text, start, end) {
-        return Line::Bad;
-    }
-    let rest = tail(text, end, k);
-    match rest {
-        Rest::Good { name, end } => Line::Good { number, name, end },
-        Rest::Bad => Line::Bad,
-    }
+    true
 }

@@ -1,15 +1,18 @@
-// A sheet's numbers in the order of its lines (document 01, "Call sheet"), the eight SSRCs behind them. A call with little stack lays
-// them out once, has them judged, and looks at them there.
-use super::MOST_SEATS;
+// A sheet's numbers in the order of its lines (document 01, "Call sheet"), the eight SSRCs behind them. A host lends a call these; a call
+// that is given the struct lays them out once.
+use super::SEATS;
 use super::Sheet;
 use super::Users;
-use super::number::is_good_number;
+use super::line::are_apart;
+use super::line::are_within;
 use super::seat::are_good_rows;
-use super::table::NUMBER_LINES;
 ghost use Rattle.sheet.specs.Promises.{numbers-of≡, are-valid≡, are-valid-with≡};
 
-// How many there are.
-pub const LINES: usize = super::table::LINES;
+// How many lines have a number alone. The lines of the seats, with the SSRCs, stand behind theirs.
+pub const NUMBER_LINES: usize = 11;
+
+// How many lines the longest sheet has.
+pub const LINES: usize = NUMBER_LINES + SEATS;
 
 pub type Numbers = [u32; LINES];
 
@@ -37,6 +40,11 @@ pub const RESULT_ID: usize = ACK + 1;
 // The last of the lines with a number alone, which says how many seats follow.
 pub const SEATS_LINE: usize = NUMBER_LINES - 1;
 
+// The first line of the five of MCV2, and the line behind them.
+const MCV2: usize = END_REQUEST;
+
+const MCV2_END: usize = ACK + 1;
+
 // Whether there are as many as a sheet has, and some sheet reads to the struct with them.
 pub fn are_valid(numbers: &[u32]) -> bool
     ensures { λ r. ⌜ are-valid≡ (now (numbers .entry)) r ⌝ }
@@ -44,24 +52,14 @@ pub fn are_valid(numbers: &[u32]) -> bool
     if numbers.len() != LINES {
         return false;
     }
-    let seats = numbers[SEATS_LINE];
-    if MOST_SEATS < seats {
+    if !are_within(&numbers[..]) {
         return false;
     }
-    let lines = NUMBER_LINES + (seats as usize);
-    let mut k = 0;
-    while k < LINES {
-        let n = numbers[k];
-        if k < lines {
-            if !is_good_number(&numbers[..k], n as u64) {
-                return false;
-            }
-        } else if n != 0 {
-            return false;
-        }
-        k += 1;
+    let lines = NUMBER_LINES + (numbers[SEATS_LINE] as usize);
+    if !are_apart(&numbers[..], lines, MCV2, MCV2_END) {
+        return false;
     }
-    true
+    are_apart(&numbers[..], lines, NUMBER_LINES, LINES)
 }
 
 // Whether they are valid and some sheet reads to the struct with them and to these User IDs.

@@ -1,24 +1,24 @@
 // The User IDs of the seats, at fixed width: a row holds a User ID and then zeros (document 01, "Call sheet").
-use super::Found;
 use super::Users;
-use super::find::by_user;
+use super::row::filled;
+use super::row::is_same_row;
 use super::user::is_user_id;
-use super::user::name_length;
 ghost use mathlib.Core.Path.{_≡_};
 ghost use mathlib.Core.Logic.{_↔_};
 ghost use Prim.Native.Nat.{ℕ, _<_};
 ghost use lib.Dec.{T};
 ghost use lib.ListN.{length};
-ghost use Rattle.octets.specs.Buffer.{zerosFrom};
-ghost use Rattle.sheet.specs.Inner.{newName, goodRow};
+ghost use Rattle.sheet.specs.Inner.{NewRow, goodRow};
 
-// Whether every octet of a row from a place on is zero.
-fn zeros_from(row: &[u8], at: usize) -> bool
-    ensures { λ r. ⌜ r ≡ zerosFrom (now (row .entry)) at ⌝ }
+// Whether no row before row s is the same.
+fn is_new_row(users: &Users, s: usize) -> bool
+    requires { ⌜ s < 8 ⌝ }
+    ensures { λ r. ⌜ T r ↔ NewRow (now (users .entry)) s ⌝ }
 {
-    let mut i = at;
-    while i < row.len() {
-        if row[i] != 0 {
+    let row = &users[s][..];
+    let mut i = 0;
+    while i < s {
+        if is_same_row(&users[i][..], row) {
             return false;
         }
         i += 1;
@@ -26,34 +26,20 @@ fn zeros_from(row: &[u8], at: usize) -> bool
     true
 }
 
-// Whether a name can be a User ID and none of the first seats has it.
-pub fn is_new_name(users: &Users, seats: u32, name: &[u8]) -> bool
-    ensures { λ r. ⌜ r ≡ newName seats (now (users .entry)) (now (name .entry)) ⌝ }
-{
-    if !is_user_id(name) {
-        return false;
-    }
-    let found = by_user(seats, users, name);
-    match found {
-        Found::Seat(_) => false,
-        Found::Nobody => true,
-    }
-}
-
-// Whether row s is as it has to be under so many seats: a new name and zeros, or zeros alone.
+// Whether row s, behind rows that are, is as it has to be under so many seats: a new name and zeros, or zeros alone.
 fn is_good_row(users: &Users, s: usize, seats: u32) -> bool
-    requires { ⌜ s < 8 ⌝ }
+    requires { ⌜ (s < 8) × ((i : ℕ) → i < s → T (goodRow seats (now users) i)) ⌝ }
     ensures { λ r. ⌜ r ≡ goodRow seats (now (users .entry)) s ⌝ }
 {
     let row = &users[s][..];
-    let n = name_length(row);
-    if !zeros_from(row, n) {
-        return false;
-    }
+    let n = filled(row) as usize;
     if seats <= (s as u32) {
         return n == 0;
     }
-    is_new_name(users, s as u32, &row[..n])
+    if !is_user_id(&row[..n]) {
+        return false;
+    }
+    is_new_row(users, s)
 }
 
 // Whether every row is as it has to be under so many seats.

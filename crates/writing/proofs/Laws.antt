@@ -1,5 +1,5 @@
-pub mod Parts
-pub mod Plans
+pub mod Planned
+pub mod User
 pub mod Kinds
 pub mod Front
 pub mod Grants

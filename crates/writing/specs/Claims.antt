@@ -12,7 +12,7 @@ use Rattle.sheet.specs.declared.Sheet.{Sheet}
 use Rattle.sheet.specs.Value.{validAlone}
 use Rattle.packet.specs.Kind.{numbersOf}
 use Rattle.packet.specs.Reading.{Outcome, readOf}
-use Rattle.writing.specs.Meaning.{Meaning, meaning}
+use Rattle.plan.specs.Meaning.{Meaning, meaning}
 use Rattle.writing.specs.Writing.{made, refused, writeOf}
 use Rattle.writing.specs.Canonical.{canonical}
 

@@ -1,5 +1,3 @@
-pub mod Meaning
-pub mod Packet
 pub mod Writing
 pub mod Canonical
 pub mod Inner

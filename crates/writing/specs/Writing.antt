@@ -1,23 +1,19 @@
 -- Writing a message (document 01, "Packet", and "Refusals": 12 line 0, 5, 11, in that order; "changes no lent octet"). Assumes nothing.
 use mathlib.Core.Path.{_≡_}
-use Prim.Native.Nat.{ℕ, _+_}
-use mathlib.Core.Bool.{Bool, _&&_}
+use Prim.Native.Nat.{ℕ}
 use mathlib.Core.List.{List}
 use mathlib.Core.Option.{Option, none, some}
 use lib.ListN.{length}
-use lib.Dec.{eqb, leb, ltb}
-use Rattle.octets.specs.Choice.{pick, every}
+use lib.Dec.{leb}
+use Rattle.octets.specs.Choice.{pick}
 use Rattle.octets.specs.Buffer.{over}
 use Rattle.sheet.specs.declared.Sheet.{Sheet}
-use Rattle.sheet.specs.Table.{numberLines, mostSeats}
 use Rattle.sheet.specs.Value.{sheetFrom, validAlone}
-use Rattle.packet.specs.declared.Numbers.{Numbers}
-use Rattle.packet.specs.Kind.{Row, Kind, kinds, numbersOf}
 use Rattle.packet.specs.Reading.{Outcome}
+use Rattle.plan.specs.Meaning.{meaning}
+use Rattle.plan.specs.Packet.{packetFor, fitting}
 use Rattle.writing.specs.declared.Writing.{Writing}
 use Rattle.writing.specs.declared.Writing.the-variants.{Written, Refused}
-use Rattle.writing.specs.Meaning.{Meaning, meaning}
-use Rattle.writing.specs.Packet.{packetOf}
 
 -- a packet to put into the buffer, or a refusal's number and place
 pub data Made : Type 0 where
@@ -29,11 +25,6 @@ unfoldable pub roomFor : ℕ → Option (List ℕ) → Made
 roomFor room none = refused 5 0
 roomFor room (some p) = pick (leb (length p) room) (made p) (refused 11 0)
 
--- the packet of a meaning under a sheet, where there is one
-unfoldable pub packetFor : Sheet → Option Meaning → Option (List ℕ)
-packetFor s none = none
-packetFor s (some m) = packetOf (numbersOf s) m
-
 -- A message with the octets its names lie in, and the buffer's length. The message is set out as reading sets it out, so that what was
 -- read can be written again; a refusal has no meaning, and is no message.
 abbrev pub madeOf : Sheet → Outcome → List ℕ → ℕ → Made
@@ -42,14 +33,6 @@ madeOf s message names room = roomFor room (packetFor s (meaning names message))
 -- "line 0, before all other checks, for a sheet value handed to a call that no sheet reads to"
 unfoldable pub writeOf : Sheet → Outcome → List ℕ → ℕ → Made
 writeOf s message names room = pick (validAlone s) (madeOf s message names room) (refused 12 0)
-
--- The numbers go into their places in a packet: "the other four are the message's number", "An ID of 192 or more is refused".
-unfoldable pub fits : Numbers → Bool
-fits n = every (λ (k : Kind). ltb (k .number) 16 && every (λ (r : Row). ltb (r .id) 192) (k .rows)) (kinds n)
-
--- as many as a sheet has, and of these it holds
-unfoldable pub fitting : List ℕ → Bool
-fitting ns = eqb (length ns) (numberLines + mostSeats) && fits (numbersOf (sheetFrom ns))
 
 -- The same where the caller has judged the sheet: 12 is left to it, but for numbers that go into no packet.
 unfoldable pub writeBy : List ℕ → Outcome → List ℕ → ℕ → Made

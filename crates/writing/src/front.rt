@@ -1,12 +1,12 @@
 // The header of a packet, put into the front of a buffer (document 01, "Packet"; RFC 3550, 6.7).
-use super::parts::Plan;
-use packet::codes::APP;
+use fields::codes::APP;
+use plan::Plan;
 ghost use mathlib.Core.Path.{_≡_};
 ghost use Prim.Native.Nat.{_≤_};
 ghost use lib.ListN.{length};
 ghost use Rattle.octets.specs.Big.{bigOf};
 ghost use Rattle.octets.specs.Buffer.{over};
-ghost use Rattle.writing.specs.Packet.{header};
+ghost use Rattle.plan.specs.Packet.{header};
 
 // Puts the header of a packet of so many octets.
 pub fn put_header(out: &mut [u8], plan: Plan, size: usize)

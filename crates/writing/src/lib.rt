@@ -1,17 +1,20 @@
 // A message written as an RTCP APP packet of MCVideo (document 01, "Packet"; RFC 3550, 6.7).
-mod fields;
+mod field_writer;
 mod front;
-mod messages;
-mod parts;
 
+use fields::codes::FIRST_FIELD;
 use packet::Message;
-use packet::codes::FIRST_FIELD;
-use parts::Plan;
+use plan::Plan;
+use plan::Planned;
+use plan::plan_of;
+use plan::sizes::size_of;
 use sheet::Refusal;
 use sheet::Sheet;
 use sheet::numbers::are_valid;
 ghost use mathlib.Core.Path.{_≡_};
+ghost use lib.Dec.{T};
 ghost use Rattle.sheet.specs.Value.{sheetIn};
+ghost use Rattle.plan.specs.Plan.{planRight};
 ghost use Rattle.writing.specs.Writing.{refusedWith, writingSaid};
 ghost use Rattle.writing.specs.Inner.{PlanWritten};
 ghost use Rattle.writing.specs.Promises.{write-by≡, write≡};
@@ -29,19 +32,17 @@ fn refused(number: u32) -> Writing
     Writing::Refused(Refusal { number, at: 0 })
 }
 
-// Writes what was planned, or 5 or 11. Everything is checked before the first store.
+// Writes what was planned, or 11. The room is checked before the first store.
 fn write_plan(plan: Plan, names: &[u8], out: &mut [u8]) -> Writing
+    requires { ⌜ T (planRight (now names) plan) ⌝ }
     ensures { λ r. ⌜ PlanWritten (now (names .entry)) plan (now (out .entry)) r (now (out .exit)) ⌝ }
 {
-    if !parts::are_right(plan, names) {
-        return refused(5);
-    }
-    let size = FIRST_FIELD + parts::size_of(plan);
+    let size = FIRST_FIELD + size_of(plan);
     if out.len() < size {
         return refused(11);
     }
     front::put_header(out, plan, size);
-    fields::put_fields(&mut out[FIRST_FIELD..], plan, names);
+    field_writer::put_fields(&mut out[FIRST_FIELD..], plan, names);
     Writing::Written(size)
 }
 
@@ -50,11 +51,11 @@ fn write_plan(plan: Plan, names: &[u8], out: &mut [u8]) -> Writing
 pub fn write_by(numbers: &[u32], message: Message, names: &[u8], out: &mut [u8]) -> Writing
     ensures { λ r. ⌜ write-by≡ (now (numbers .entry)) message (now (names .entry)) (now (out .entry)) r (now (out .exit)) ⌝ }
 {
-    let all = &numbers[..];
-    if !messages::fit(all) {
-        return refused(12);
+    let lent = &names[..];
+    match plan_of(numbers, message, lent) {
+        Planned::Packet(plan) => write_plan(plan, lent, out),
+        Planned::Refused(number) => refused(number),
     }
-    write_plan(messages::plan_of(all, message), &names[..], out)
 }
 
 // Writes a message whose names lie in `names` into the front of `out`, a sheet's numbers lent: how many octets, or 12 line 0, 5 or 11, checked in

@@ -9,45 +9,39 @@ use native.Mathlib.Omega.{arith}
 use lib.Dec.{ltb}
 use borrow.Author.Tests.{ltb-false, le-ltb}
 use Rattle.octets.specs.Choice.{pick}
-use Rattle.octets.proofs.Choice.{decide}
+use Rattle.octets.proofs.Choice.{decide, and-true-left}
 use Rattle.sheet.specs.declared.Sheet.{Sheet}
 use Rattle.sheet.specs.Value.{sheetIn, validAlone}
-use Rattle.reception.specs.declared.Record.{Record}
-use Rattle.reception.specs.declared.Event.{Event}
-use Rattle.reception.specs.Record.{rulesOf, onSheet, legal, sameRecord, own}
-use Rattle.reception.specs.Table.{senderOn}
-use Rattle.reception.specs.Steps.{Said, gives, refuses, check, Try, seenOf, readOf, attemptOf, replyOf, storeOf, counted, countOf}
+use Rattle.streams.specs.declared.Record.{Record}
+use Rattle.streams.specs.declared.Event.{Event}
+use Rattle.streams.specs.Record.{rulesOf, onSheet, legal, sameRecord, own}
+use Rattle.streams.specs.Table.{senderOn}
+use Rattle.reception.specs.Steps.{Said, gives, refuses, check, Try, seenOf, readOf, attemptOf, replyOf, counted, countOf}
 use Rattle.reception.proofs.Laws.Steps.{seats-le-8}
-use Rattle.face.specs.Rows.{recordsIn}
+use Rattle.rows.specs.Rows.{isSome, recordsIn}
 use Rattle.face.specs.Calls.{ofGiven, standing, under}
-use Rattle.face.specs.Promises.{Rowed}
-use Rattle.face.specs.Inner.{isSome}
+use Rattle.rows.specs.Promises.{Rowed, record-at≡}
 use Rattle.face.proofs.Laws.Told.{rowed-refuses, check-twice, misfit-is, Plain, plain-check}
-use Rattle.face.proofs.Laws.Records.{option-cases}
+use Rattle.rows.proofs.Laws.Records.{is-some, option-cases, own-known}
 
 -- ---- refusals
 
 plain-checks : {A : Type 0} (valid good : Bool) (x : Said A) → Plain x → Plain (check valid 12 (check good 9 x))
 plain-checks valid good x t = plain-check valid 12 (check good 9 x) (omega arith) (plain-check good 9 x (omega arith) t)
 
-plain-seen : (s : Sheet) (stream : ℕ) (x : Record) → Plain (seenOf s stream x)
+pub plain-seen : (s : Sheet) (stream : ℕ) (x : Record) → Plain (seenOf s stream x)
 unfolding seenOf
 plain-seen s stream x =
     let q = rulesOf s in
     plain-checks (validAlone s) (onSheet q stream && legal q stream x) (gives x) tt
-
-pub plain-read : (s : Sheet) (stream : ℕ) (rs : List Record) → Plain (readOf s stream rs .said)
-unfolding readOf
-plain-read s stream rs = plain-seen s stream (own rs stream)
 
 plain-counted : (x : Said Record) → Plain x → Plain (counted x)
 unfolding counted
 plain-counted (gives x) t = tt
 plain-counted (refuses number line) t = t
 
-pub plain-count : (s : Sheet) (stream : ℕ) (rs : List Record) → Plain (countOf s stream rs .said)
-unfolding countOf
-plain-count s stream rs = plain-counted (seenOf s stream (own rs stream)) (plain-seen s stream (own rs stream))
+pub plain-count : (s : Sheet) (stream : ℕ) (x : Record) → Plain (counted (seenOf s stream x))
+plain-count s stream x = plain-counted (seenOf s stream x) (plain-seen s stream x)
 
 pub plain-attempt : (s : Sheet) (x : Record) (e : Event) → Plain (attemptOf s x e)
 unfolding attemptOf
@@ -55,15 +49,23 @@ plain-attempt s x e =
     let q = rulesOf s in
     plain-checks (validAlone s) (onSheet q (e .stream) && (senderOn q (e .what) && legal q (e .stream) x)) (gives _) tt
 
-pub plain-store : (s : Sheet) (a : Try) (rs : List Record) → Plain (storeOf s a rs .said)
-unfolding storeOf replyOf
-plain-store s a rs =
-    let x = own rs (a .stream) in
+pub plain-reply : (s : Sheet) (a : Try) (x : Record) → Plain (replyOf s a x)
+unfolding replyOf
+plain-reply s a x =
     let good = legal (rulesOf s) (a .stream) in
     let same = sameRecord x (a .seen) in
     plain-checks (validAlone s) (onSheet (rulesOf s) (a .stream) && (good x && (good (a .seen) && good (a .wanted))))
     (check same 10 (gives (a .reply)))
     (plain-check same 10 (gives (a .reply)) (omega arith) tt)
+
+-- ---- the record of a stream
+
+-- the one that was made of octets that are eight records is its own of the eight
+pub eight-own : (octets : List ℕ) (stream : ℕ) (x : Record) → (isSome (recordsIn 8 octets) && ltb stream 256) ≡ true → record-at≡ octets stream x
+    → (rs : List Record) × (recordsIn 8 octets ≡ some rs) × (x ≡ own rs stream)
+eight-own octets stream x right e =
+    let are = is-some (recordsIn 8 octets) (and-true-left (isSome (recordsIn 8 octets)) _ right) in
+    (are .0, are .1, e ∙ own-known 8 octets (are .0) stream (are .1))
 
 -- ---- what is said of a stream of eight records, as a row: `mcv_seen` and `mcv_count` differ in what that is
 

@@ -16,21 +16,23 @@ use Rattle.sheet.specs.Table.{mostSeats}
 use Rattle.sheet.specs.Value.{sheetIn, validWith, validAlone}
 use Rattle.sheet.proofs.Laws.Values.{few-seats}
 use Rattle.packet.specs.Kind.{numbersOf}
-use Rattle.writing.specs.Packet.{packetOf}
+use Rattle.plan.specs.Packet.{packetOf}
 use Rattle.writing.specs.Writing.{Made, made, refused, roomFor}
-use Rattle.reception.specs.declared.Answer.{Answer}
-use Rattle.reception.specs.Answer.{Sent, messageOf}
-use Rattle.reception.specs.Record.{rulesOf, onSheet}
+use Rattle.streams.specs.declared.Answer.{Answer}
+use Rattle.streams.specs.Answer.{Sent, messageOf}
+use Rattle.streams.specs.Record.{rulesOf, onSheet}
 use Rattle.reception.specs.Steps.{Said, gives, refuses, check}
-use Rattle.controller.specs.declared.Sending.{Sending}
-use Rattle.controller.specs.declared.Sending.the-variants.{Written, Nothing, Refused}
-use Rattle.controller.specs.Event.{userOf}
-use Rattle.controller.specs.Sending.{messageOut, Parcel, parcel, parcelOf, sendingOf, told, sendingSaid, after, Tells}
-use Rattle.controller.proofs.Laws.Answers.{sending-off}
-use Rattle.controller.proofs.Laws.Seats.{valid-alone}
-use Rattle.face.specs.Rows.{answerIn}
-use Rattle.face.specs.Calls.{roomy, ofGiven, madeSays, standing, octetsOf, packetSays}
-use Rattle.face.specs.Promises.{Rowed, Wrote}
+use Rattle.outgoing.specs.declared.Sending.{Sending}
+use Rattle.outgoing.specs.declared.Sending.the-variants.{Written, Nothing, Refused}
+use Rattle.sheet.specs.Find.{userOf}
+use Rattle.outgoing.specs.Sending.{messageOut, Parcel, parcel, parcelOf, sendingOf, told, sendingSaid, after, Tells}
+use Rattle.outgoing.proofs.Laws.Answers.{sending-off}
+use Rattle.sheet.proofs.Laws.Seats.{valid-alone}
+use Rattle.rows.specs.Rows.{answerIn}
+use Rattle.rows.specs.Lent.{roomy}
+use Rattle.face.specs.Calls.{ofGiven, madeSays, standing, octetsOf, packetSays}
+use Rattle.rows.specs.Promises.{Rowed}
+use Rattle.face.specs.Promises.{Wrote}
 use Rattle.face.proofs.Laws.Wrote.{inRoom, roomIn, part-gave, part-refused, packetSaid, room-made, packet-short, ShortMade, short-made}
 
 -- ---- what is sent, by the room

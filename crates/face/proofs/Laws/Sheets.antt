@@ -14,21 +14,23 @@ use Rattle.octets.specs.Buffer.{over, padded}
 use Rattle.octets.specs.Text.{decimal, decimalBy}
 use Rattle.octets.proofs.Choice.{pick-cases}
 use Rattle.octets.proofs.Buffer.{length-padded}
-use Rattle.sheet.specs.declared.Reading.{Reading}
 use Rattle.sheet.specs.Table.{table, seatRow, numberLines, mostSeats}
-use Rattle.sheet.specs.Line.{Entry, tailOf, widest, longest, textOf}
-use Rattle.sheet.specs.Judge.{numbersIn, good, inTurn, whole}
-use Rattle.sheet.specs.Reading.{Outcome, reads, refused, goodLine, behind, readBy, outcome}
-use Rattle.sheet.specs.Value.{sheetBy, sheetFrom, sheetOf, numbersOf, readingOf, readOf, usersIn}
+use Rattle.sheet.specs.Judge.{Entry, numbersIn, good, inTurn, whole}
+use Rattle.sheet.specs.Value.{sheetBy, sheetFrom, sheetOf, numbersOf}
 use Rattle.sheet.proofs.Laws.Entries.{inTurn-snoc, length-numbersIn, numbersIn-append, Open, open-more, good-numbers}
 use Rattle.sheet.proofs.Laws.Fresh.{seats-bound}
-use Rattle.sheet.proofs.Laws.Readings.{entryAt, goodLine-good, outcome-reads}
-use Rattle.sheet.proofs.Laws.Decides.{longest-decides}
 use Rattle.sheet.proofs.Laws.Laid.{valid-good, valid-length}
+use Rattle.sheet_text.specs.declared.Reading.{Reading}
+use Rattle.sheet_text.specs.Line.{tailOf, widest, longest, textOf}
+use Rattle.sheet_text.specs.Reading.{Outcome, reads, refused, goodLine, behind, readBy, outcome, readingOf, readOf, usersIn}
+use Rattle.sheet_text.proofs.Laws.Readings.{entryAt, goodLine-good, outcome-reads}
+use Rattle.sheet_text.proofs.Laws.Decides.{longest-decides}
 use Rattle.reception.specs.Steps.{gives}
-use Rattle.face.specs.Calls.{code, put, roomy, sheetSays}
-use Rattle.face.specs.Rows.{sheetRow}
-use Rattle.face.specs.Promises.{Rowed, usersAfter, mcv-sheet≡}
+use Rattle.rows.specs.Lent.{code, put, roomy}
+use Rattle.face.specs.Calls.{sheetSays}
+use Rattle.rows.specs.Rows.{sheetRow}
+use Rattle.rows.specs.Promises.{Rowed}
+use Rattle.face.specs.Promises.{usersAfter, mcv-sheet≡}
 
 -- ---- how much is read
 

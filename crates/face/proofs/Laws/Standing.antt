@@ -17,14 +17,13 @@ use Rattle.packet.specs.declared.kind.Form.the-variants.{Number, Cause, Result,
 use Rattle.packet.specs.Kind.{Row, Kind, always, unlessGranted, row, user, indicator, kindRow, kinds, mayLack, mayHave, grants, numbersOf}
 use Rattle.packet.specs.Judge.{Held, absent, given, named}
 use Rattle.packet.specs.Reading.{Outcome, reads, refused}
-use Rattle.writing.specs.Meaning.{Value, nothing, numeral, spelt, nowhere, valueIn, meaning}
-use Rattle.writing.specs.Packet.{holds, isNothing, takes, takesAll, isOne, isNumber, within, writable}
-use Rattle.writing.specs.Writing.{packetFor}
+use Rattle.plan.specs.Meaning.{Value, nothing, numeral, spelt, nowhere, valueIn, meaning}
+use Rattle.plan.specs.Packet.{holds, isNothing, takes, takesAll, isOne, isNumber, within, writable, packetFor}
+use Rattle.plan.proofs.Laws.Packets.{packetOf-written}
 use Rattle.writing.proofs.Laws.Kinds.{kindWith-all}
-use Rattle.writing.proofs.Laws.Back.{packetOf-written}
-use Rattle.face.specs.Rows.{noNumber, flag, columns, withHeld, withAll, messageRow, heldIn, numbersSay}
-use Rattle.face.specs.Inner.{numberFrom}
-use Rattle.face.proofs.Laws.Messages.{numbered}
+use Rattle.rows.specs.Rows.{noNumber, flag, columns, withHeld, withAll, messageRow, heldIn, numbersSay}
+use Rattle.rows.specs.Inner.{numberFrom}
+use Rattle.rows.proofs.Laws.Messages.{numbered}
 
 -- ---- values that a kind takes
 

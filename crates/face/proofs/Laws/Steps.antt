@@ -3,35 +3,40 @@ use mathlib.Core.Path.{_≡_, refl, sym, ap, _∙_}
 use mathlib.Core.Logic.{⊎-elim}
 use mathlib.Core.Bool.{Bool, true, false, _&&_, and-assoc}
 use mathlib.Core.List.{List, [], _∷_, append-nil}
-use mathlib.Core.Option.{Option, none, some}
+use mathlib.Core.Option.{none, some}
 use Prim.Native.Nat.{ℕ, _+_, _*_, _≤_, _<_}
 use native.Mathlib.Omega.{arith}
-use lib.ListN.{length, set, drop-of-length-le, length-set}
+use lib.ListN.{length, set, drop, drop-of-length-le, length-set, length-drop}
 use lib.Dec.{leb}
 use Rattle.octets.specs.Choice.{pick}
-use Rattle.octets.specs.Buffer.{over}
-use Rattle.octets.proofs.Choice.{T-true, false-T, decide}
+use Rattle.octets.specs.Buffer.{over, putAt}
+use Rattle.octets.proofs.Choice.{T-true, decide}
 use Rattle.sheet.specs.declared.Sheet.{Sheet}
 use Rattle.sheet.specs.declared.Refusal.{Refusal}
 use Rattle.sheet.specs.Value.{sheetIn, validAlone}
-use Rattle.reception.specs.declared.Record.{Record}
-use Rattle.reception.specs.declared.Event.{Event}
-use Rattle.reception.specs.declared.Answer.{Answer}
+use Rattle.streams.specs.declared.Record.{Record}
+use Rattle.streams.specs.declared.Event.{Event}
+use Rattle.streams.specs.declared.Answer.{Answer}
+use Rattle.streams.specs.Record.{rulesOf, onSheet, phaseNumber, legal, own}
+use Rattle.streams.specs.Answer.{answerSaid}
+use Rattle.streams.specs.Table.{senderOn}
 use Rattle.reception.specs.declared.Taking.the-variants.{Took, Refused}
 use Rattle.reception.specs.declared.Attempt.{Attempt}
-use Rattle.reception.specs.declared.Stored.{Stored}
-use Rattle.reception.specs.Record.{rulesOf, onSheet, phaseNumber, legal, own}
-use Rattle.reception.specs.Answer.{Reply, answerSaid}
-use Rattle.reception.specs.Table.{senderOn}
-use Rattle.reception.specs.Steps.{Said, gives, refuses, check, Left, Try, attemptOf, replyOf, stored, storeOf, attemptSaid, takingSaid, storedSaid}
-use Rattle.reception.proofs.Laws.Steps.{seats-le-8, on-sheet-below, reply-gives}
-use Rattle.face.specs.Rows.{recordsRow, recordsIn, eventIn, answerRow, tryRow, tryIn}
-use Rattle.face.specs.Calls.{code, put, roomy, ofGiven, standing, workSays, leftSays, storeSays}
+use Rattle.reception.specs.declared.Taking.{Taking}
+use Rattle.reception.specs.Steps.{Said, gives, refuses, check, Try, attemptOf, replyOf, stored, storeOf, attemptSaid, takingSaid}
+use Rattle.reception.specs.Promises.{settle≡}
+use Rattle.reception.proofs.Laws.Steps.{seats-le-8, reply-gives, reply-below}
+use Rattle.rows.specs.Rows.{isSome, recordRow, recordsRow, recordsIn, eventIn, answerRow, tryRow, tryIn}
+use Rattle.rows.specs.Lent.{code, put, roomy}
+use Rattle.face.specs.Calls.{ofGiven, standing, workSays, leftSays, storeSays}
 use Rattle.face.specs.Calls.{Stored as Kept}
-use Rattle.face.specs.Promises.{Rowed, Keeps}
-use Rattle.face.specs.Inner.{isSome, Nowhere, NeverLegal}
+use Rattle.rows.specs.Promises.{Rowed}
+use Rattle.face.specs.Promises.{Keeps}
+use Rattle.face.specs.Inner.{Nowhere, NeverLegal}
 use Rattle.face.proofs.Laws.Told.{rowed-refuses, keeps-refuses, misfit-is}
-use Rattle.face.proofs.Laws.Records.{option-cases, records-eight, row-set}
+use Rattle.rows.proofs.Laws.Answers.{answer-length}
+use Rattle.rows.proofs.Laws.Claims.{attempts-stand}
+use Rattle.rows.proofs.Laws.Records.{is-none, option-cases, records-eight, row-set, place-set}
 
 -- ---- checks
 
@@ -56,16 +61,7 @@ pub keeps-misfit : (sheet : List ℕ) (said : Said Kept) → said ≡ refuses (p
     → (records answer : List ℕ) (r : ℕ) → r ≡ pick (validAlone (sheetIn sheet)) 9 12 → Keeps said records answer r records answer
 keeps-misfit sheet said e records answer r told = rw e (keeps-refuses _ 0 records answer r (omega arith))
 
--- there is none
-is-none : {A : Type 0} (o : Option A) → isSome o ≡ false → o ≡ none
-is-none none e = refl
-is-none (some x) e = absurd (false-T true e tt)
-
 -- ---- working out
-
--- the record that octets are is one
-pub only : {o : Option (List Record)} {x y : Record} → o ≡ some (x ∷ []) → o ≡ some (y ∷ []) → x ≡ y
-only p q = cc
 
 -- nothing is worked out of an event that is on no sheet
 attempt-nowhere : (s : Sheet) (x : Record) (e : Event) → Nowhere e → attemptOf s x e ≡ refuses (pick (validAlone s) 9 12) 0
@@ -76,9 +72,9 @@ attempt-nowhere s x e n =
 
 module _ (sheet seen event : List ℕ) where
   -- no record
-  pub work-unseen : isSome (recordsIn 1 seen) ≡ false → workSays sheet seen event ≡ refuses (pick (validAlone (sheetIn sheet)) 9 12) 0
+  pub work-unseen : recordsIn 1 seen ≡ none → workSays sheet seen event ≡ refuses (pick (validAlone (sheetIn sheet)) 9 12) 0
   unfolding workSays standing
-  work-unseen e = rw (is-none (recordsIn 1 seen) e) (misfit-is (validAlone (sheetIn sheet)) 9)
+  work-unseen e = rw e (misfit-is (validAlone (sheetIn sheet)) 9)
 
   -- a record and an event
   pub work-given : (x : Record) (e : Event) → recordsIn 1 seen ≡ some (x ∷ []) → eventIn event ≡ some e
@@ -142,42 +138,53 @@ module _ (sheet attempt records : List ℕ) where
         store-given (s .0) (s .1) ∙ rw (reply-never (sheetIn sheet) (s .0) (own rs (s .0 .stream)) (n (s .0) (s .1))))
         (option-cases (tryIn attempt))
 
+-- ---- the answer in an attempt's row
+
+-- it is what is behind the first five numbers
+pub answered : (row : List ℕ) (a : Attempt) → tryIn row ≡ some (attemptSaid a) → drop 5 row ≡ answerRow (a .answer)
+answered row a e = ap (drop 5) (sym (attempts-stand row (attemptSaid a) .0 e .1))
+
+-- so that those five are there
+pub answered-length : (row : List ℕ) (a : Attempt) → tryIn row ≡ some (attemptSaid a) → 5 ≤ length row
+answered-length row a e = omega (arith, ap length (answered row a e), answer-length (a .answer), length-drop 5 row)
+
 -- ---- a store that took
 
 -- what is kept of it
-abbrev keptOf : List Record → Attempt → Answer → Kept
-keptOf rs a g = record { records = recordsRow (set rs (a .stream) (a .wanted)); answer = answerRow g }
+abbrev keptOf : List Record → Attempt → Kept
+keptOf rs a = record { records = recordsRow (set rs (a .stream) (a .wanted)); answer = answerRow (a .answer) }
 
 -- its stream is one of eight, and the record wanted is held
-pub record Taken (s : Sheet) (a : Attempt) (rs : List Record) (g : Answer) : Type 0 where
+pub record Taken (s : Sheet) (a : Attempt) (rs : List Record) : Type 0 where
   pub stream : a .stream < 8
-  pub says : leftSays (storeOf s (attemptSaid a) rs) ≡ gives (keptOf rs a g)
+  pub says : leftSays (storeOf s (attemptSaid a) rs) ≡ gives (keptOf rs a)
 
-pub taken : (s : Sheet) (a : Attempt) (rs : List Record) (r : Stored) (g : Answer)
-    → storedSaid r ≡ storeOf s (attemptSaid a) rs → r .taking ≡ Took g → Taken s a rs g
+pub taken : (s : Sheet) (a : Attempt) (rs : List Record) (r : Taking) (g : Answer) → settle≡ s a (own rs (a .stream)) r → r ≡ Took g → Taken s a rs
 unfolding storeOf stored ofGiven
 taken s a rs r g e t =
-    let said : replyOf s (attemptSaid a) (own rs (a .stream)) ≡ gives (answerSaid g) = ap (λ (l : Left Reply). l .said) (sym e) ∙ ap takingSaid t in
-    let right = reply-gives s (attemptSaid a) (own rs (a .stream)) (answerSaid g) said in
-    record { stream = on-sheet-below s (a .stream) (right .valid) (right .on); says = rw said }
+    let x = own rs (a .stream) in
+    let said : replyOf s (attemptSaid a) x ≡ gives (answerSaid g) = sym e ∙ ap takingSaid t in
+    let same = reply-gives s (attemptSaid a) x (answerSaid g) said .same in
+    record { stream = reply-below s (attemptSaid a) x (answerSaid g) said; says = rw (said ∙ ap gives (sym same)) }
 
 -- one that was refused
-pub refused-says : (r : Stored) (refusal : Refusal) → r .taking ≡ Refused refusal → leftSays (storedSaid r) ≡ refuses (refusal .number) (refusal .at)
-unfolding ofGiven
-refused-says r refusal t = rw t
+pub refused-says : (s : Sheet) (a : Attempt) (rs : List Record) (r : Taking) (refusal : Refusal)
+    → settle≡ s a (own rs (a .stream)) r → r ≡ Refused refusal → leftSays (storeOf s (attemptSaid a) rs) ≡ refuses (refusal .number) (refusal .at)
+unfolding storeOf ofGiven
+refused-says s a rs r refusal e t = rw (sym e ∙ ap takingSaid t)
 
 -- ---- what is kept
 
 -- the octets of the eight records with another in a stream's place
 pub kept-octets : (octets : List ℕ) (rs : List Record) (s : ℕ) (x : Record) → recordsIn 8 octets ≡ some rs → s < 8
-    → set (set octets (2 * s) (phaseNumber (x .phase))) (2 * s + 1) (x .receivers) ≡ over (recordsRow (set rs s x)) octets
+    → putAt octets (2 * s) (recordRow x) ≡ over (recordsRow (set rs s x)) octets
 unfolding over
 kept-octets octets rs s x e h =
     let eight = records-eight octets rs e in
     let row = row-set rs s x (omega (arith, eight .1)) in
     let now = set (set octets (2 * s) (phaseNumber (x .phase))) (2 * s + 1) (x .receivers) in
     let long : length octets ≤ length now = simp length-set (omega arith) in
-    rw (row, eight .2, drop-of-length-le octets long, append-nil)
+    place-set octets s x (omega arith) ∙ rw (row, eight .2, drop-of-length-le octets long, append-nil)
 
 -- told by what was told of the answer alone: 0, and all is kept
 pub keeps-gives : (kept : Kept) (records answer : List ℕ) (r : ℕ) (now told : List ℕ)

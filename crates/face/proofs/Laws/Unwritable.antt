@@ -1,22 +1,35 @@
 -- Messages that no packet of any sheet reads to: a number that is too wide or absent where the kind must have one, a Reject Cause beside Result 1, a
 -- Result that is neither 0 nor 1, and a kind that is none of the seven. Assumes nothing.
-use mathlib.Core.Path.{_≡_, refl, sym}
-use Prim.Native.Nat.{ℕ, _≤_, _<_}
-use mathlib.Core.Bool.{Bool, true, false, and-false}
-use mathlib.Core.List.{List, [], _∷_}
+use mathlib.Core.Path.{_≡_, refl, sym, _∙_, subst}
+use mathlib.Core.Logic.{_⊎_, inl, inr, ⊎-elim}
+use Prim.Native.Nat.{ℕ, zero, suc, _≤_, _<_}
+use mathlib.Core.Bool.{Bool, true, false, _&&_, and-false}
+use mathlib.Core.List.{List, [], _∷_, map}
+use native.Mathlib.Omega.{arith}
+use lib.ListN.{getD}
 use lib.Dec.{eqb, ltb, eqb→eq}
-use borrow.Author.Tests.{le-ltb, lt-leb, ne-eqb, eqb-false}
-use Rattle.octets.proofs.Choice.{false-T, pick-cases, NoneFrom}
+use borrow.Author.Tests.{le-ltb, lt-leb, ltb-false, ne-eqb, eqb-false}
+use Rattle.octets.specs.Choice.{same}
+use Rattle.octets.proofs.Choice.{false-T, pick-cases}
 use Rattle.packet.specs.declared.kind.Form.{Form}
 use Rattle.packet.specs.declared.kind.Form.the-variants.{Number, Cause, Result, MessageType}
 use Rattle.packet.specs.Judge.{Held, absent, given}
 use Rattle.packet.specs.Kind.{Row, always, unlessGranted, kinds, mayLack, mayHave, isResult, grants, row, indicator}
-use Rattle.packet.specs.Reading.{reads}
-use Rattle.writing.specs.Meaning.{numeral, valueIn, meaning}
-use Rattle.writing.specs.Packet.{holds, isNothing, takes, takesAll, isOne, writable, kindWith, packetOf}
-use Rattle.writing.specs.Writing.{packetFor}
-use Rattle.face.specs.Rows.{noNumber, messageIn}
-use Rattle.face.specs.Inner.{isMessageRow, numberFrom, indicatorNarrow, Unwritable}
+use Rattle.packet.specs.declared.Message.{Message}
+use Rattle.packet.specs.declared.Reading.the-variants.{Read, Refused}
+use Rattle.packet.specs.Reading.{Outcome, reads, refused}
+use Rattle.packet.specs.Message.{messageSaid}
+use Rattle.packet.specs.Apart.{reading-apart}
+use Rattle.plan.specs.Meaning.{numeral, valueIn, meaning}
+use Rattle.plan.specs.Packet.{holds, isNothing, takes, takesAll, isOne, writable, kindWith, packetOf, packetFor}
+use Rattle.rows.specs.declared.message.Handed.{Handed}
+use Rattle.rows.specs.declared.message.Handed.the-variants.{Message as HandedMessage, Nothing as NoMessage}
+use Rattle.rows.specs.Rows.{noNumber, columns, heldIn, messageRow, numbersSay, messageIn}
+use Rattle.rows.specs.Held.{indicatorFits, causeFits, numbersFit, messageHeld}
+use Rattle.rows.specs.Promises.{message-in≡}
+use Rattle.rows.specs.Inner.{numberFrom}
+use Rattle.rows.proofs.Laws.Messages.{by-kind, fits-request, fits-response, fits-end-request, fits-end-response, fits-end, fits-transmission-response, fits-ack}
+use Rattle.face.specs.Inner.{Unwritable, HandedIs}
 
 -- a number that a row does not take
 untaken : (grant : Bool) (r : Row) (names : List ℕ) (n : ℕ) → (n ≡ noNumber → mayLack grant (r .need) ≡ false) → holds (r .form) (numeral n) ≡ false
@@ -33,8 +46,8 @@ unfolding mayLack
 untaken-always grant id form names n h = untaken grant (row id form always) names n (λ e. refl) h
 
 -- an Indicator that is none of 16 bits
-untaken-indicator : (grant : Bool) (names : List ℕ) (n : ℕ) → indicatorNarrow n ≡ false → takes grant indicator (valueIn names (numberFrom n)) ≡ false
-unfolding indicatorNarrow holds
+untaken-indicator : (grant : Bool) (names : List ℕ) (n : ℕ) → indicatorFits n ≡ false → takes grant indicator (valueIn names (numberFrom n)) ≡ false
+unfolding indicatorFits holds
 untaken-indicator grant names n =
     pick-cases (λ (b : Bool). b ≡ false → takes grant indicator (valueIn names (numberFrom n)) ≡ false) (eqb n noNumber) true (ltb n 65536)
     (λ t e. absurd (false-T true e tt))
@@ -42,67 +55,137 @@ untaken-indicator grant names n =
 
 module _ (ssrc : ℕ) (ack : Bool) where
   -- an Indicator that is too wide, in each kind that may have one
-  pub wide-request : (user source : Held) (i : ℕ) → indicatorNarrow i ≡ false → Unwritable (reads 1 ssrc ack (user ∷ source ∷ numberFrom i ∷ []))
+  wide-request : (user source : Held) (i : ℕ) → indicatorFits i ≡ false → Unwritable (reads 1 ssrc ack (user ∷ source ∷ numberFrom i ∷ []))
   unfolding packetFor packetOf meaning kindWith kinds writable takesAll
   wide-request user source i e s names = rw (untaken-indicator, and-false, and-false, and-false)
 
-  pub wide-response : (result cause : Held) (i : ℕ) → indicatorNarrow i ≡ false → Unwritable (reads 2 ssrc ack (result ∷ cause ∷ numberFrom i ∷ []))
+  wide-response : (result cause : Held) (i : ℕ) → indicatorFits i ≡ false → Unwritable (reads 2 ssrc ack (result ∷ cause ∷ numberFrom i ∷ []))
   unfolding packetFor packetOf meaning kindWith kinds writable takesAll
   wide-response result cause i e s names = rw (untaken-indicator, and-false, and-false, and-false)
 
-  pub wide-end-request : (transmitter : Held) (i : ℕ) → indicatorNarrow i ≡ false → Unwritable (reads 3 ssrc ack (transmitter ∷ numberFrom i ∷ []))
+  wide-end-request : (transmitter : Held) (i : ℕ) → indicatorFits i ≡ false → Unwritable (reads 3 ssrc ack (transmitter ∷ numberFrom i ∷ []))
   unfolding packetFor packetOf meaning kindWith kinds writable takesAll
   wide-end-request transmitter i e s names = rw (untaken-indicator, and-false, and-false)
 
-  pub wide-end : (cause : Held) (i : ℕ) → indicatorNarrow i ≡ false → Unwritable (reads 5 ssrc ack (cause ∷ numberFrom i ∷ []))
+  wide-end : (cause : Held) (i : ℕ) → indicatorFits i ≡ false → Unwritable (reads 5 ssrc ack (cause ∷ numberFrom i ∷ []))
   unfolding packetFor packetOf meaning kindWith kinds writable takesAll
   wide-end cause i e s names = rw (untaken-indicator, and-false, and-false)
 
   -- a cause that is absent or too wide
-  pub no-cause : (cause : ℕ) (i : Held) → 65536 ≤ cause → Unwritable (reads 5 ssrc ack (numberFrom cause ∷ i ∷ []))
+  no-cause : (cause : ℕ) (i : Held) → 65536 ≤ cause → Unwritable (reads 5 ssrc ack (numberFrom cause ∷ i ∷ []))
   unfolding packetFor packetOf meaning kindWith kinds writable takesAll holds
   no-cause cause i h s names =
       let no : holds Cause (numeral cause) ≡ false = le-ltb cause 65536 h in
       rw (untaken-always, and-false)
 
-  pub no-cause-beside-0 : (cause : ℕ) (i : Held) → 65536 ≤ cause → Unwritable (reads 2 ssrc ack (numberFrom 0 ∷ numberFrom cause ∷ i ∷ []))
+  no-cause-beside-0 : (cause : ℕ) (i : Held) → 65536 ≤ cause → Unwritable (reads 2 ssrc ack (numberFrom 0 ∷ numberFrom cause ∷ i ∷ []))
   unfolding packetFor packetOf meaning kindWith kinds writable takesAll mayLack holds grants isResult isOne valueIn
   no-cause-beside-0 cause i h s names =
       rw (untaken false (row 2 Cause unlessGranted) names cause (λ e. refl) (le-ltb cause 65536 h), and-false, and-false)
 
   -- a cause beside Result 1
-  pub cause-beside-1 : (cause : ℕ) (i : Held) → (cause ≡ noNumber → ⊥) → Unwritable (reads 2 ssrc ack (numberFrom 1 ∷ numberFrom cause ∷ i ∷ []))
+  cause-beside-1 : (cause : ℕ) (i : Held) → (cause ≡ noNumber → ⊥) → Unwritable (reads 2 ssrc ack (numberFrom 1 ∷ numberFrom cause ∷ i ∷ []))
   unfolding packetFor packetOf meaning kindWith kinds writable takesAll takes isNothing mayHave grants isResult isOne valueIn
   cause-beside-1 cause i h s names = rw (ne-eqb cause noNumber h, and-false, and-false)
 
   -- a Result that is neither
-  pub no-result : (result : ℕ) (cause i : Held) → 1 < result → Unwritable (reads 2 ssrc ack (numberFrom result ∷ cause ∷ i ∷ []))
+  no-result : (result : ℕ) (cause i : Held) → 1 < result → Unwritable (reads 2 ssrc ack (numberFrom result ∷ cause ∷ i ∷ []))
   unfolding packetFor packetOf meaning kindWith kinds writable takesAll holds
   no-result result cause i h s names =
       let no : holds Result (numeral result) ≡ false = lt-leb result 1 h in
       rw (untaken-always, and-false)
 
   -- a Source and a Message Type that are absent or too wide
-  pub no-source : (source : ℕ) (about : Held) → 65536 ≤ source → Unwritable (reads 7 ssrc ack (numberFrom source ∷ about ∷ []))
+  no-source : (source : ℕ) (about : Held) → 65536 ≤ source → Unwritable (reads 7 ssrc ack (numberFrom source ∷ about ∷ []))
   unfolding packetFor packetOf meaning kindWith kinds writable takesAll holds
   no-source source about h s names =
       let no : holds Number (numeral source) ≡ false = le-ltb source 65536 h in
       rw (untaken-always, and-false)
 
-  pub no-about : (source : Held) (about : ℕ) → 256 ≤ about → Unwritable (reads 7 ssrc ack (source ∷ numberFrom about ∷ []))
+  no-about : (source : Held) (about : ℕ) → 256 ≤ about → Unwritable (reads 7 ssrc ack (source ∷ numberFrom about ∷ []))
   unfolding packetFor packetOf meaning kindWith kinds writable takesAll holds
   no-about source about h s names =
       let no : holds MessageType (numeral about) ≡ false = le-ltb about 256 h in
       rw (untaken-always, and-false, and-false)
 
   -- no kind of the seven
-  pub no-kind : (kind : ℕ) (values : List Held) → NoneFrom 1 7 kind → Unwritable (reads kind ssrc ack values)
+  no-kind : (kind : ℕ) (values : List Held) → ((k : ℕ) → 1 ≤ k → k ≤ 7 → k ≡ kind → ⊥) → Unwritable (reads kind ssrc ack values)
   unfolding packetFor packetOf meaning kindWith kinds
-  no-kind kind values t s names =
-      let no : (k : ℕ) → (kind ≡ k → ⊥) → eqb k kind ≡ false = λ k n. ne-eqb k kind (λ e. n (sym e)) in
-      rw (no 1 (t .0 .0 .0 .0 .0 .0 .1), no 2 (t .0 .0 .0 .0 .0 .1), no 3 (t .0 .0 .0 .0 .1), no 4 (t .0 .0 .0 .1), no 5 (t .0 .0 .1), no 6 (t .0 .1), no 7 (t .1))
+  no-kind kind values other s names =
+      let no : (k : ℕ) → 1 ≤ k → k ≤ 7 → eqb k kind ≡ false = λ k l m. ne-eqb k kind (other k l m) in
+      rw (
+        no 1 (omega arith) (omega arith),
+        no 2 (omega arith) (omega arith),
+        no 3 (omega arith) (omega arith),
+        no 4 (omega arith) (omega arith),
+        no 5 (omega arith) (omega arith),
+        no 6 (omega arith) (omega arith),
+        no 7 (omega arith) (omega arith),
+      )
 
--- a row that is no message's
-pub not-row : (numbers : List ℕ) → isMessageRow numbers ≡ false → Unwritable (messageIn numbers)
-unfolding isMessageRow messageIn packetFor meaning
-not-row numbers e s names = rw e
+-- a refusal is no message
+refusal-unwritable : (number at : ℕ) → Unwritable (refused number at)
+unfolding packetFor meaning
+refusal-unwritable number at s names = refl
+
+-- and a message no refusal
+said-read : (m : Message) (number at : ℕ) → messageSaid m ≡ refused number at → ⊥
+said-read m number at e =
+    let p = reading-apart (Read m) (Refused (record { number = number; at = at })) e in
+    let z : _≡_ {A = ℕ} 0 1 = cc in
+    omega arith
+
+-- ---- numbers that do not fit
+
+-- one of two tests fails
+either : (a b : Bool) → (a && b) ≡ false → (a ≡ false) ⊎ (b ≡ false)
+either true b e = inr e
+either false b e = inl refl
+
+-- a response's
+misfit-response : (ssrc : ℕ) (ack : Bool) (result cause i : ℕ) → (ltb result 2 && (causeFits (eqb result 1) cause && indicatorFits i)) ≡ false
+    → Unwritable (reads 2 ssrc ack (numberFrom result ∷ numberFrom cause ∷ numberFrom i ∷ []))
+unfolding causeFits
+misfit-response ssrc ack zero cause i e =
+    ⊎-elim (λ f. no-cause-beside-0 ssrc ack cause (numberFrom i) (ltb-false cause 65536 f)) (λ f. wide-response ssrc ack (numberFrom 0) (numberFrom cause) i f)
+    (either (ltb cause 65536) (indicatorFits i) e)
+misfit-response ssrc ack (suc zero) cause i e =
+    ⊎-elim (λ f. cause-beside-1 ssrc ack cause (numberFrom i) (eqb-false cause noNumber f)) (λ f. wide-response ssrc ack (numberFrom 1) (numberFrom cause) i f)
+    (either (eqb cause noNumber) (indicatorFits i) e)
+misfit-response ssrc ack (suc (suc n)) cause i e = no-result ssrc ack (suc (suc n)) (numberFrom cause) (numberFrom i) (omega arith)
+
+-- those of each kind
+misfit-numbers : (row : List ℕ) → numbersFit row ≡ false → Unwritable (numbersSay row)
+unfolding numbersSay columns heldIn
+misfit-numbers row e =
+    let at : ℕ → ℕ = λ k. getD row k 0 in
+    let ssrc = at 1 in
+    let ack = eqb (at 2) 1 in
+    let fits : (b : Bool) → numbersFit row ≡ b → b ≡ false = λ b f. sym f ∙ e in
+    by-kind (λ (kind : ℕ). at 0 ≡ kind → Unwritable (reads kind ssrc ack (map (heldIn row) (columns kind))))
+    (λ z. no-kind ssrc ack 0 [] (λ k l m e. omega arith))
+    (λ k. wide-request ssrc ack _ _ (at 9) (fits _ (fits-request row k)))
+    (λ k. misfit-response ssrc ack (at 7) (at 8) (at 9) (fits _ (fits-response row k)))
+    (λ k. wide-end-request ssrc ack _ (at 9) (fits _ (fits-end-request row k)))
+    (λ k. absurd (false-T true (fits true (fits-end-response row k)) tt))
+    (λ k. ⊎-elim (λ f. no-cause ssrc ack (at 8) (numberFrom (at 9)) (ltb-false (at 8) 65536 f)) (λ f. wide-end ssrc ack (numberFrom (at 8)) (at 9) f)
+    (either _ _ (fits _ (fits-end row k))))
+    (λ k. absurd (false-T true (fits true (fits-transmission-response row k)) tt))
+    (λ k. ⊎-elim (λ f. no-source ssrc ack (at 10) (numberFrom (at 11)) (ltb-false (at 10) 65536 f)) (λ f. no-about ssrc ack (numberFrom (at 10)) (at 11) (ltb-false (at 11) 256 f))
+    (either _ _ (fits _ (fits-ack row k))))
+    (λ n z. no-kind ssrc ack _ [] (λ k l m e. omega arith))
+    (at 0)
+    refl
+
+-- what is made of a row is its message, and nothing is made only of one that no packet reads to
+pub handed-is : (row : List ℕ) (r : Handed) → message-in≡ row r → HandedIs row r
+unfolding messageHeld messageIn
+handed-is row (HandedMessage m) =
+    pick-cases (λ (o : Outcome). messageSaid m ≡ o → messageIn row ≡ messageSaid m) (numbersFit row) (messageIn row) (refused 5 0)
+    (λ t e. sym e)
+    (λ f e. absurd (said-read m 5 0 e))
+handed-is row NoMessage =
+    let whole = same (messageRow (numbersSay row)) row in
+    pick-cases (λ (o : Outcome). refused 5 0 ≡ o → Unwritable (messageIn row)) (numbersFit row) (messageIn row) (refused 5 0)
+    (λ t e. subst Unwritable e (refusal-unwritable 5 0))
+    (λ f e. pick-cases Unwritable whole (numbersSay row) (refused 5 0) (λ t. misfit-numbers row f) (λ g. refusal-unwritable 5 0))

@@ -13,15 +13,18 @@ use Rattle.sheet.specs.declared.Sheet.{Sheet}
 use Rattle.sheet.specs.declared.Refusal.{Refusal}
 use Rattle.sheet.specs.Value.{sheetIn, validAlone}
 use Rattle.packet.specs.Reading.{Outcome}
-use Rattle.writing.specs.Meaning.{Meaning, meaning}
+use Rattle.plan.specs.Meaning.{Meaning, meaning}
+use Rattle.plan.specs.Packet.{packetFor}
 use Rattle.writing.specs.declared.Writing.{Writing}
 use Rattle.writing.specs.declared.Writing.the-variants.{Written, Refused}
-use Rattle.writing.specs.Writing.{Made, made, refused, packetFor, madeOf, roomFor, writeOf, wrote, refusedWith, told, writingSaid, after, Answered}
+use Rattle.writing.specs.Writing.{Made, made, refused, madeOf, roomFor, writeOf, wrote, refusedWith, told, writingSaid, after, Answered}
 use Rattle.writing.specs.Writing.{Said as Answer}
 use Rattle.reception.specs.Steps.{Said, gives, refuses, check}
-use Rattle.face.specs.Rows.{messageIn}
-use Rattle.face.specs.Calls.{roomy, madeSays, writeSays}
-use Rattle.face.specs.Promises.{Rowed, Wrote}
+use Rattle.rows.specs.Rows.{messageIn}
+use Rattle.rows.specs.Lent.{roomy}
+use Rattle.face.specs.Calls.{madeSays, writeSays}
+use Rattle.rows.specs.Promises.{Rowed}
+use Rattle.face.specs.Promises.{Wrote}
 use Rattle.face.specs.Inner.{Unwritable}
 use Rattle.face.proofs.Laws.Wrote.{inRoom, roomIn, part-gave, part-refused, packetSaid, room-made, packet-short, ShortMade, short-made}
 

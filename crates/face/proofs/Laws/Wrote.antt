@@ -15,15 +15,18 @@ use Rattle.octets.specs.Buffer.{over}
 use Rattle.octets.proofs.Choice.{pick-true, pick-cases}
 use Rattle.sheet.specs.declared.Sheet.{Sheet}
 use Rattle.sheet.specs.Value.{validAlone}
+use Rattle.fields.proofs.Laws.Sized.{sized}
 use Rattle.packet.specs.Kind.{numbersOf}
-use Rattle.packet.proofs.Laws.Sized.{sized}
-use Rattle.writing.specs.Meaning.{Meaning}
-use Rattle.writing.specs.Packet.{packetOf}
+use Rattle.plan.specs.Meaning.{Meaning}
+use Rattle.plan.specs.Packet.{packetOf}
+use Rattle.plan.proofs.Laws.Packets.{packetOf-written}
 use Rattle.writing.specs.Writing.{Made, made, refused, roomFor}
-use Rattle.writing.proofs.Laws.Back.{packetOf-written, packet-front}
+use Rattle.writing.proofs.Laws.Back.{packet-front}
 use Rattle.reception.specs.Steps.{Said, gives, refuses, check}
-use Rattle.face.specs.Calls.{code, put, roomy, madeSays}
-use Rattle.face.specs.Promises.{Rowed, Wrote}
+use Rattle.rows.specs.Lent.{code, put, roomy}
+use Rattle.face.specs.Calls.{madeSays}
+use Rattle.rows.specs.Promises.{Rowed}
+use Rattle.face.specs.Promises.{Wrote}
 use Rattle.face.proofs.Laws.Told.{wrote-refuses, misfit-is}
 
 -- what is given where it goes into so much room, else 11

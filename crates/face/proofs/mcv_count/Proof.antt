@@ -3,18 +3,19 @@ use mathlib.Core.Path.{_≡_, sym, ap, _∙_}
 use mathlib.Core.Bool.{true, _&&_}
 use mathlib.Core.List.{List, [], _∷_}
 use Prim.Native.Nat.{ℕ}
+use mathlib.Core.Option.{some}
 use native.Mathlib.Omega.{arith}
 use lib.Dec.{ltb}
 use borrow.Author.Needs.{needs}
 use borrow.Author.Tests.{ltb-true, not-true, not-false}
-use Rattle.octets.proofs.Choice.{and-true-left, and-true-right}
+use Rattle.octets.proofs.Choice.{and-true-right}
 use Rattle.sheet.specs.Value.{sheetIn}
-use Rattle.reception.specs.Steps.{Left, countOf, countedSaid}
-use Rattle.face.specs.Rows.{recordsIn}
+use Rattle.streams.specs.declared.Record.{Record}
+use Rattle.reception.specs.Steps.{seenOf, counted, countOf, countedSaid}
+use Rattle.rows.specs.Rows.{isSome, recordsIn}
 use Rattle.face.specs.Calls.{countSays}
-use Rattle.face.specs.Inner.{isSome}
 use Rattle.face.proofs.Laws.Told.{plain-refuses}
-use Rattle.face.proofs.Laws.Reception.{plain-count, count-judged, eight-misfit, eight-gives, eight-refuses}
+use Rattle.face.proofs.Laws.Reception.{plain-count, count-judged, eight-own, eight-misfit, eight-gives, eight-refuses}
 use Rattle.face.proofs.mcv_count.Statement.{statement}
 use Rattle.face.proofs.mcv_count.Tie as tie
 
@@ -45,16 +46,16 @@ right : (c : tie.Else1)
     (isSome (recordsIn 8 (a .records .now)) && ltb (a .stream) 256) ≡ true
 right c = sym (c .before .are-right .ensures) ∙ not-false _ (c .if1 .left)
 
-streams-in-requires : tie.Need-streams-in-requires
-streams-in-requires c κs = and-true-left (isSome (recordsIn 8 (c .before .before .before .before .before .args .records .now))) _ (right c)
+cast-stream : tie.Need-cast-stream
+cast-stream c =
+    let a = c .before .before .before .before .before .args in
+    omega (arith, ltb-true (a .stream) 256 (and-true-right (isSome (recordsIn 8 (a .records .now))) _ (right c)))
 
-cast-count-lent : tie.Need-cast-count-lent
-cast-count-lent c =
-    let a = c .before .before .before .before .before .before .args in
-    omega (arith, ltb-true (a .stream) 256 (and-true-right (isSome (recordsIn 8 (a .records .now))) _ (right (c .before))))
+record-at-requires : tie.Need-record-at-requires
+record-at-requires c κs = search needs
 
-count-lent-requires : tie.Need-count-lent-requires
-count-lent-requires c κs = search needs
+counted-lent-requires : tie.Need-counted-lent-requires
+counted-lent-requires c κs = search needs
 
 enum-known-number : tie.Need-enum-known-number
 enum-known-number c = search needs
@@ -65,18 +66,24 @@ put-number-requires c κs = search needs
 enum-known-refusal : tie.Need-enum-known-refusal
 enum-known-refusal c = search needs
 
--- what is counted is what a count says
-says : (c : tie.After-count-lent)
+-- the eight records, of which what is said is what a count says
+eight : (c : tie.After-counted-lent)
     → let a = c .before .before .before .before .before .before .before .args in
-    countedSaid (c .count-lent .result) ≡ countOf (sheetIn (a .sheet .now)) (a .stream) (c .before .streams-in .result) .said
-says c = ap (λ (l : Left ℕ). l .said) (c .count-lent .ensures)
+    (rs : List Record)
+    × (recordsIn 8 (a .records .now) ≡ some rs)
+    × (countedSaid (c .counted-lent .result) ≡ countOf (sheetIn (a .sheet .now)) (a .stream) rs .said)
+unfolding countOf
+eight c =
+    let a = c .before .before .before .before .before .before .before .args in
+    let own = eight-own (a .records .now) (a .stream) _ (right (c .before .before)) (c .before .record-at .ensures) in
+    (own .0, own .1, c .counted-lent .ensures ∙ ap (λ (x : Record). counted (seenOf (sheetIn (a .sheet .now)) (a .stream) x)) (own .2))
 
 code-requires : tie.Need-code-requires
 code-requires c κs =
     let told = c .before .before .before in
     let a = told .before .before .before .before .before .before .before .args in
-    plain-refuses _ _ _ (plain-count (sheetIn (a .sheet .now)) (a .stream) (told .before .streams-in .result))
-    (sym (says told) ∙ ap countedSaid (c .before .refusal .given .1))
+    plain-refuses _ _ _ (plain-count (sheetIn (a .sheet .now)) (a .stream) (told .before .record-at .result))
+    (sym (told .counted-lent .ensures) ∙ ap countedSaid (c .before .refusal .given .1))
 
 same-length : tie.Need-same-length
 same-length c = search needs
@@ -88,9 +95,9 @@ returns-2 c =
     let known = put .before .before .before in
     let told = known .before .before in
     let a = told .before .before .before .before .before .before .before .args in
-    eight-gives one (a .sheet .now) (a .records .now) (count-judged _ (a .stream)) _ (told .before .streams-in .ensures)
+    eight-gives one (a .sheet .now) (a .records .now) (count-judged _ (a .stream)) _ (eight told .1)
     _
-    (sym (ap countedSaid (known .number .given .1)) ∙ says told)
+    (sym (ap countedSaid (known .number .given .1)) ∙ eight told .2)
     (a .count .now)
     _
     _
@@ -102,10 +109,10 @@ returns-3 c =
     let known = c .before .before in
     let told = known .before .before in
     let a = told .before .before .before .before .before .before .before .args in
-    eight-refuses one (a .sheet .now) (a .records .now) (count-judged _ (a .stream)) _ (told .before .streams-in .ensures)
+    eight-refuses one (a .sheet .now) (a .records .now) (count-judged _ (a .stream)) _ (eight told .1)
     _
     _
-    (sym (ap countedSaid (known .refusal .given .1)) ∙ says told)
+    (sym (ap countedSaid (known .refusal .given .1)) ∙ eight told .2)
     (a .count .now)
     _
     (c .code .ensures)
@@ -117,9 +124,9 @@ mcv-count-spec =
     are-right-requires
     misfit-requires
     returns
-    streams-in-requires
-    cast-count-lent
-    count-lent-requires
+    cast-stream
+    record-at-requires
+    counted-lent-requires
     enum-known-number
     put-number-requires
     enum-known-refusal

@@ -1,14 +1,14 @@
 -- `face::mcv_event` meets its contract: what the controller says of the packet, as a row or a code. Assumes nothing.
 use mathlib.Core.Path.{sym, ap, _∙_, subst}
 use Rattle.sheet.specs.Value.{sheetIn}
-use Rattle.reception.specs.declared.Event.{Event}
+use Rattle.streams.specs.declared.Event.{Event}
 use Rattle.reception.specs.Steps.{Said}
-use Rattle.controller.specs.Event.{eventOf, offeredSaid}
-use Rattle.face.specs.Rows.{eventRow}
+use Rattle.incoming.specs.Event.{eventOf, offeredSaid}
+use Rattle.rows.specs.Rows.{eventRow}
 use Rattle.face.specs.Calls.{ofGiven, eventSays}
-use Rattle.face.specs.Promises.{Rowed}
+use Rattle.rows.specs.Promises.{Rowed}
 use Rattle.face.proofs.Laws.Told.{rowed-refuses, plain-refuses}
-use Rattle.face.proofs.Laws.Events.{plain-event}
+use Rattle.face.proofs.Laws.Packets.{plain-event}
 use borrow.Author.Needs.{needs}
 use Rattle.face.proofs.mcv_event.Statement.{statement}
 use Rattle.face.proofs.mcv_event.Tie as tie
@@ -19,8 +19,8 @@ event-lent-requires c κs = search needs
 enum-known-offered : tie.Need-enum-known-offered
 enum-known-offered c = search needs
 
-put-row-requires : tie.Need-put-row-requires
-put-row-requires c κs = search needs
+put-event-requires : tie.Need-put-event-requires
+put-event-requires c κs = search needs
 
 enum-known-refusal : tie.Need-enum-known-refusal
 enum-known-refusal c = search needs
@@ -46,9 +46,9 @@ returns c =
     let known = put .before .before .before in
     let found = known .before .before in
     let a = found .before .before .before .before .args in
-    subst (λ (s : Said Event). Rowed (ofGiven eventRow s) (a .event .now) (put .put-row .result) (put .put-row .last .0))
+    subst (λ (s : Said Event). Rowed (ofGiven eventRow s) (a .event .now) (put .put-event .result) (put .put-event .last .0))
     (sym (ap offeredSaid (known .offered .given .1)) ∙ found .event-lent .ensures)
-    (put .put-row .ensures)
+    (put .put-event .ensures)
 
 returns-2 : tie.Need-returns-2
 unfolding eventSays ofGiven
@@ -66,7 +66,7 @@ mcv-event-spec =
     (tie.spec
     event-lent-requires
     enum-known-offered
-    put-row-requires
+    put-event-requires
     enum-known-refusal
     code-requires
     same-length

@@ -8,9 +8,8 @@ use lib.ListN.{length, getD}
 use lib.Dec.{eqb}
 use Rattle.octets.specs.Choice.{pick}
 use Rattle.octets.proofs.Choice.{pick-cases}
-use Rattle.packet.specs.Walk.{Stepped, field, end, refused, fieldRight, fieldAt, placeRight, stepOf}
-use Rattle.packet.specs.Message.{stepSaid}
-use Rattle.packet.proofs.Laws.Walk.{next-after}
+use Rattle.fields.specs.Walk.{Stepped, field, end, refused, fieldRight, fieldAt, placeRight, stepOf, stepSaid}
+use Rattle.fields.proofs.Laws.Walk.{next-after}
 use Rattle.face.specs.Calls.{fieldSays}
 use Rattle.face.proofs.Laws.Told.{rowed-refuses}
 use Rattle.face.proofs.mcv_field.Statement.{statement}

@@ -2,7 +2,7 @@
 use mathlib.Core.Path.{sym, ap, _∙_}
 use borrow.Author.Needs.{needs}
 use Rattle.sheet.specs.Value.{sheetIn, validWith}
-use Rattle.face.specs.Inner.{answeringSaid}
+use Rattle.rows.specs.Held.{answeringSaid}
 use Rattle.face.proofs.Laws.Wrote.{wrote-misfit}
 use Rattle.face.proofs.Laws.Sends.{packet-misfit, packet-far, packet-stands}
 use Rattle.face.proofs.mcv_packet.Statement.{statement}

@@ -5,9 +5,9 @@ use Rattle.sheet.specs.Value.{sheetIn}
 use Rattle.packet.specs.Reading.{Outcome, readOf}
 use Rattle.packet.specs.Message.{readSaid}
 use Rattle.face.specs.Calls.{outcomeSays, readSays}
-use Rattle.face.specs.Promises.{Rowed}
+use Rattle.rows.specs.Promises.{Rowed}
 use Rattle.face.proofs.Laws.Told.{rowed-refuses, plain-refuses}
-use Rattle.face.proofs.Laws.Events.{plain-packet}
+use Rattle.face.proofs.Laws.Packets.{said-row, plain-packet}
 use Rattle.face.proofs.mcv_read.Statement.{statement}
 use Rattle.face.proofs.mcv_read.Tie as tie
 
@@ -17,8 +17,8 @@ read-lent-requires c κs = search needs
 enum-known-read : tie.Need-enum-known-read
 enum-known-read c = search needs
 
-put-row-requires : tie.Need-put-row-requires
-put-row-requires c κs = search needs
+put-message-requires : tie.Need-put-message-requires
+put-message-requires c κs = search needs
 
 enum-known-refusal : tie.Need-enum-known-refusal
 enum-known-refusal c = search needs
@@ -40,9 +40,9 @@ returns c =
     let known = put .before .before .before in
     let found = known .before .before in
     let a = found .before .before .before .before .args in
-    subst (λ (o : Outcome). Rowed (outcomeSays o) (a .message .now) (put .put-row .result) (put .put-row .last .0))
+    subst (λ (o : Outcome). Rowed (outcomeSays o) (a .message .now) (put .put-message .result) (put .put-message .last .0))
     (sym (ap readSaid (known .read .given .1)) ∙ found .read-lent .ensures)
-    (put .put-row .ensures)
+    (rw said-row (put .put-message .ensures))
 
 returns-2 : tie.Need-returns-2
 unfolding readSays
@@ -60,7 +60,7 @@ mcv-read-spec =
     (tie.spec
     read-lent-requires
     enum-known-read
-    put-row-requires
+    put-message-requires
     enum-known-refusal
     code-requires
     same-length

@@ -1,19 +1,20 @@
 -- `face::mcv_seen` meets its contract: what a read says of the records that the octets are (`ofEight`). Assumes nothing.
 use mathlib.Core.Path.{_≡_, sym, ap, _∙_}
 use mathlib.Core.Bool.{true, _&&_}
+use mathlib.Core.List.{List}
+use mathlib.Core.Option.{some}
 use native.Mathlib.Omega.{arith}
 use lib.Dec.{ltb}
 use borrow.Author.Needs.{needs}
 use borrow.Author.Tests.{ltb-true, not-true, not-false}
-use Rattle.octets.proofs.Choice.{and-true-left, and-true-right}
+use Rattle.octets.proofs.Choice.{and-true-right}
 use Rattle.sheet.specs.Value.{sheetIn}
-use Rattle.reception.specs.declared.Record.{Record}
-use Rattle.reception.specs.Steps.{Left, readOf, seenSaid}
-use Rattle.face.specs.Rows.{recordRow, recordsIn}
+use Rattle.streams.specs.declared.Record.{Record}
+use Rattle.reception.specs.Steps.{seenOf, readOf, seenSaid}
+use Rattle.rows.specs.Rows.{isSome, recordRow, recordsIn}
 use Rattle.face.specs.Calls.{seenSays}
-use Rattle.face.specs.Inner.{isSome}
 use Rattle.face.proofs.Laws.Told.{plain-refuses}
-use Rattle.face.proofs.Laws.Reception.{plain-read, read-judged, eight-misfit, eight-gives, eight-refuses}
+use Rattle.face.proofs.Laws.Reception.{plain-seen, read-judged, eight-own, eight-misfit, eight-gives, eight-refuses}
 use Rattle.face.proofs.mcv_seen.Statement.{statement}
 use Rattle.face.proofs.mcv_seen.Tie as tie
 
@@ -40,16 +41,16 @@ right : (c : tie.Else1)
     (isSome (recordsIn 8 (a .records .now)) && ltb (a .stream) 256) ≡ true
 right c = sym (c .before .are-right .ensures) ∙ not-false _ (c .if1 .left)
 
-streams-in-requires : tie.Need-streams-in-requires
-streams-in-requires c κs = and-true-left (isSome (recordsIn 8 (c .before .before .before .before .before .args .records .now))) _ (right c)
+cast-stream : tie.Need-cast-stream
+cast-stream c =
+    let a = c .before .before .before .before .before .args in
+    omega (arith, ltb-true (a .stream) 256 (and-true-right (isSome (recordsIn 8 (a .records .now))) _ (right c)))
 
-cast-read-lent : tie.Need-cast-read-lent
-cast-read-lent c =
-    let a = c .before .before .before .before .before .before .args in
-    omega (arith, ltb-true (a .stream) 256 (and-true-right (isSome (recordsIn 8 (a .records .now))) _ (right (c .before))))
+record-at-requires : tie.Need-record-at-requires
+record-at-requires c κs = search needs
 
-read-lent-requires : tie.Need-read-lent-requires
-read-lent-requires c κs = search needs
+seen-lent-requires : tie.Need-seen-lent-requires
+seen-lent-requires c κs = search needs
 
 enum-known-own : tie.Need-enum-known-own
 enum-known-own c = search needs
@@ -60,18 +61,24 @@ put-record-requires c κs = search needs
 enum-known-refusal : tie.Need-enum-known-refusal
 enum-known-refusal c = search needs
 
--- what is read is what a read says
-says : (c : tie.After-read-lent)
+-- the eight records, of which what is said is what a read says
+eight : (c : tie.After-seen-lent)
     → let a = c .before .before .before .before .before .before .before .args in
-    seenSaid (c .read-lent .result) ≡ readOf (sheetIn (a .sheet .now)) (a .stream) (c .before .streams-in .result) .said
-says c = ap (λ (l : Left Record). l .said) (c .read-lent .ensures)
+    (rs : List Record)
+    × (recordsIn 8 (a .records .now) ≡ some rs)
+    × (seenSaid (c .seen-lent .result) ≡ readOf (sheetIn (a .sheet .now)) (a .stream) rs .said)
+unfolding readOf
+eight c =
+    let a = c .before .before .before .before .before .before .before .args in
+    let own = eight-own (a .records .now) (a .stream) _ (right (c .before .before)) (c .before .record-at .ensures) in
+    (own .0, own .1, c .seen-lent .ensures ∙ ap (λ (x : Record). seenOf (sheetIn (a .sheet .now)) (a .stream) x) (own .2))
 
 code-requires : tie.Need-code-requires
 code-requires c κs =
     let read = c .before .before .before in
     let a = read .before .before .before .before .before .before .before .args in
-    plain-refuses _ _ _ (plain-read (sheetIn (a .sheet .now)) (a .stream) (read .before .streams-in .result))
-    (sym (says read) ∙ ap seenSaid (c .before .refusal .given .1))
+    plain-refuses _ _ _ (plain-seen (sheetIn (a .sheet .now)) (a .stream) (read .before .record-at .result))
+    (sym (read .seen-lent .ensures) ∙ ap seenSaid (c .before .refusal .given .1))
 
 same-length : tie.Need-same-length
 same-length c = search needs
@@ -83,9 +90,9 @@ returns-2 c =
     let known = put .before .before .before in
     let read = known .before .before in
     let a = read .before .before .before .before .before .before .before .args in
-    eight-gives recordRow (a .sheet .now) (a .records .now) (read-judged _ (a .stream)) _ (read .before .streams-in .ensures)
+    eight-gives recordRow (a .sheet .now) (a .records .now) (read-judged _ (a .stream)) _ (eight read .1)
     _
-    (sym (ap seenSaid (known .own .given .1)) ∙ says read)
+    (sym (ap seenSaid (known .own .given .1)) ∙ eight read .2)
     (a .seen .now)
     _
     _
@@ -97,10 +104,10 @@ returns-3 c =
     let known = c .before .before in
     let read = known .before .before in
     let a = read .before .before .before .before .before .before .before .args in
-    eight-refuses recordRow (a .sheet .now) (a .records .now) (read-judged _ (a .stream)) _ (read .before .streams-in .ensures)
+    eight-refuses recordRow (a .sheet .now) (a .records .now) (read-judged _ (a .stream)) _ (eight read .1)
     _
     _
-    (sym (ap seenSaid (known .refusal .given .1)) ∙ says read)
+    (sym (ap seenSaid (known .refusal .given .1)) ∙ eight read .2)
     (a .seen .now)
     _
     (c .code .ensures)
@@ -112,9 +119,9 @@ mcv-seen-spec =
     are-right-requires
     misfit-requires
     returns
-    streams-in-requires
-    cast-read-lent
-    read-lent-requires
+    cast-stream
+    record-at-requires
+    seen-lent-requires
     enum-known-own
     put-record-requires
     enum-known-refusal

@@ -2,7 +2,7 @@
 use mathlib.Core.Logic.{inl, inr}
 use borrow.Author.Needs.{needs}
 use native.Mathlib.Omega.{arith}
-use Rattle.face.proofs.Laws.Told.{over-one}
+use Rattle.rows.proofs.Laws.Put.{over-one}
 use Rattle.face.proofs.Laws.Sheets.{Small, read-small, rowed-fits, sheet-refused, sheet-short, sheet-read}
 use Rattle.face.proofs.mcv_sheet.Statement.{statement}
 use Rattle.face.proofs.mcv_sheet.Tie as tie

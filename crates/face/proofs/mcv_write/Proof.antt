@@ -4,6 +4,7 @@ use borrow.Author.Needs.{needs}
 use Rattle.sheet.specs.Value.{sheetIn, validAlone}
 use Rattle.face.specs.Calls.{writeSays}
 use Rattle.face.specs.Inner.{HandedIs}
+use Rattle.face.proofs.Laws.Unwritable.{handed-is}
 use Rattle.face.proofs.Laws.Wrote.{wrote-misfit}
 use Rattle.face.proofs.Laws.Writes.{write-misfit}
 use Rattle.face.proofs.mcv_write.Statement.{statement}
@@ -37,15 +38,18 @@ returns c =
     let given = wrote .before .before .before .before in
     let asked = given .before .before in
     let a = asked .before .before .before .before .before .before .args in
-    rw (subst (HandedIs (a .message .now)) (given .given .given .1) (asked .message-in .ensures)) (wrote .write .ensures)
+    let made = handed-is (a .message .now) (asked .message-in .result) (asked .message-in .ensures) in
+    let message = subst (HandedIs (a .message .now)) (given .given .given .1) made in
+    rw message (wrote .write .ensures)
 
 returns-2 : tie.Need-returns-2
 returns-2 c =
     let told = c .before in
     let asked = told .before .before in
     let a = asked .before .before .before .before .before .before .args in
-    rw (write-misfit (a .sheet .now) (a .message .now) (a .names .now) _
-    (subst (HandedIs (a .message .now)) (told .enum-told .given .1) (asked .message-in .ensures)))
+    let made = handed-is (a .message .now) (asked .message-in .result) (asked .message-in .ensures) in
+    let nothing = subst (HandedIs (a .message .now)) (told .enum-told .given .1) made in
+    rw (write-misfit (a .sheet .now) (a .message .now) (a .names .now) _ nothing)
     (wrote-misfit (validAlone (sheetIn (a .sheet .now))) 5 _ _ _ (c .misfit .ensures))
 
 pub mcv-write-spec : {M : Type 1} → statement M

@@ -7,8 +7,8 @@ use native.Mathlib.Omega.{arith}
 use lib.ListN.{length, take}
 use lib.Seq.{length-take-le}
 use Rattle.sheet.specs.Value.{sheetIn}
-use Rattle.reception.specs.Answer.{messageOf}
-use Rattle.controller.specs.Sending.{sendingSaid}
+use Rattle.streams.specs.Answer.{messageOf}
+use Rattle.outgoing.specs.Sending.{sendingSaid}
 use Rattle.face.proofs.Laws.Sends.{Small, told-small, sends-written, sends-none, sends-refused}
 use Rattle.face.proofs.send.Statement.{statement}
 use Rattle.face.proofs.send.Tie as tie

@@ -8,7 +8,7 @@ use lib.Dec.{T}
 use borrow.Author.Tests.{le-leb}
 use Rattle.octets.specs.Buffer.{over}
 use Rattle.octets.proofs.Buffer.{take-over}
-use Rattle.sheet.specs.Value.{noRefusal}
+use Rattle.sheet_text.specs.Reading.{noRefusal}
 use Rattle.writing.specs.declared.Writing.{Writing}
 use Rattle.writing.specs.declared.Writing.the-variants.{Written}
 use Rattle.writing.specs.Writing.{made, told, after}

@@ -5,22 +5,22 @@ use mathlib.Core.Bool.{_&&_}
 use Prim.Native.Nat.{ℕ, _+_, _≤_, _<_}
 use native.Mathlib.Omega.{arith}
 use mathlib.Core.List.{List}
-use mathlib.Core.Option.{Option, none, some}
+use mathlib.Core.Option.{none}
 use lib.ListN.{length}
 use lib.Seq.{take-all, length-take-le}
 use lib.Dec.{T, leb, leb→le}
 use Rattle.octets.specs.Hex.{isHex}
-use Rattle.octets.proofs.Choice.{T-true, T-false, T-and-left, T-and-right, le-or-lt}
-use Rattle.sheet.specs.Reading as sheet-reading
+use Rattle.octets.proofs.Choice.{T-false, T-and-left, T-and-right, le-or-lt}
 use Rattle.sheet.specs.Value as sheet
-use Rattle.sheet.proofs.Laws.Readings.{outcome-reads}
 use Rattle.sheet.proofs.Laws.Laid.{laid-valid}
 use Rattle.sheet.proofs.Laws.Claims.{valid-alone-exactly}
+use Rattle.sheet_text.specs.Reading as sheet-reading
+use Rattle.sheet_text.proofs.Laws.Readings.{outcome-reads}
 use Rattle.packet.specs.declared.Numbers.{Numbers}
 use Rattle.packet.specs.Kind.{numbersOf}
-use Rattle.packet.specs.Reading.{Outcome, readOf, readBy}
-use Rattle.look.specs.Line.{mostDigits, lineRight, packetIn, lineAs, lineOf, lineBy}
-use Rattle.look.specs.Claims.{UnderASheet}
+use Rattle.packet.specs.Reading.{readBy}
+use Rattle.shown.specs.Line.{mostDigits, lineRight, packetIn, lineAs, lineOf, lineBy}
+use Rattle.shown.proofs.Laws.Line.{under-a-sheet}
 use Rattle.look.specs.Steps.{keptOf}
 
 -- ---- what is kept of a line
@@ -55,31 +55,19 @@ lineBy-kept n line = ap (lineAs (readBy n)) (kept-packet line)
 
 module _ (t : List ℕ) where
   -- the entries that were read are a sheet's
-  outcome-valid : (o : sheet-reading.Outcome) → sheet-reading.outcome t ≡ o → sheet.readingOf o .refusal .number ≡ 0
-      → T (sheet.validAlone (sheet.readingOf o .sheet))
-  unfolding sheet.readingOf
+  outcome-valid : (o : sheet-reading.Outcome) → sheet-reading.outcome t ≡ o → sheet-reading.readingOf o .refusal .number ≡ 0
+      → T (sheet.validAlone (sheet-reading.readingOf o .sheet))
+  unfolding sheet-reading.readingOf
   outcome-valid (sheet-reading.reads es) p e =
       valid-alone-exactly (sheet.sheetOf es) .1 (sheet.usersOf es, laid-valid es (outcome-reads t es p .0))
   outcome-valid (sheet-reading.refused k) p e = absurd (omega arith)
 
   -- a sheet that was read is valid
-  pub read-valid : sheet.readOf t .refusal .number ≡ 0 → T (sheet.validAlone (sheet.readOf t .sheet))
-  unfolding sheet.readOf
+  pub read-valid : sheet-reading.readOf t .refusal .number ≡ 0 → T (sheet.validAlone (sheet-reading.readOf t .sheet))
+  unfolding sheet-reading.readOf
   read-valid e = outcome-valid (sheet-reading.outcome t) refl e
 
--- packets that are read alike are printed alike
-lineAs-alike : (f g : List ℕ → Outcome) → ((p : List ℕ) → f p ≡ g p) → (o : Option (List ℕ)) → lineAs f o ≡ lineAs g o
-unfolding lineAs
-lineAs-alike f g h none = refl
-lineAs-alike f g h (some p) = rw (h p)
-
--- under a valid sheet packets are read as under its numbers
-pub under-a-sheet : UnderASheet
-unfolding lineOf lineBy readOf
-under-a-sheet s line v =
-    lineAs-alike (readOf s) (readBy (numbersOf s)) (λ p. rw (T-true (sheet.validAlone s) v)) (packetIn line)
-
--- and a sheet that was read is valid
-pub lineOf-read : (t : List ℕ) → sheet.readOf t .refusal .number ≡ 0 → (line : List ℕ)
-    → lineOf (sheet.readOf t .sheet) line ≡ lineBy (numbersOf (sheet.readOf t .sheet)) line
-lineOf-read t e line = under-a-sheet (sheet.readOf t .sheet) line (read-valid t e)
+-- so that its lines print as under its numbers
+pub lineOf-read : (t : List ℕ) → sheet-reading.readOf t .refusal .number ≡ 0 → (line : List ℕ)
+    → lineOf (sheet-reading.readOf t .sheet) line ≡ lineBy (numbersOf (sheet-reading.readOf t .sheet)) line
+lineOf-read t e line = under-a-sheet (sheet-reading.readOf t .sheet) line (read-valid t e)

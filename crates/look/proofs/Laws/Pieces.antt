@@ -13,17 +13,16 @@ use Rattle.octets.specs.Text.{decimal, decimalBy}
 use Rattle.octets.proofs.Choice.{T-true, decide, le-or-lt, pick-cases}
 use Rattle.octets.proofs.Buffer.{take-padded}
 use Rattle.sheet.specs.Table.{table, seatRow, mostSeats}
-use Rattle.sheet.specs.Line.{lf, tailOf, widest, longest, textOf}
-use Rattle.sheet.specs.Reading as sheet-reading
-use Rattle.sheet.specs.Value as sheet
-use Rattle.sheet.proofs.Laws.Readings.{outcome-reads}
-use Rattle.sheet.proofs.Laws.Decides.{longest-decides}
+use Rattle.sheet_text.specs.Line.{lf, tailOf, widest, longest, textOf}
+use Rattle.sheet_text.specs.Reading as sheet-reading
+use Rattle.sheet_text.proofs.Laws.Readings.{outcome-reads}
+use Rattle.sheet_text.proofs.Laws.Decides.{longest-decides}
 use Rattle.packet.specs.declared.Numbers.{Numbers}
 use Rattle.packet.specs.Kind.{numbersOf}
+use Rattle.shown.specs.Line.{mostDigits, lineBy, sheetLine}
 use Rattle.look.specs.declared.Look.{Look}
 use Rattle.look.specs.Lines.{linesOf}
-use Rattle.look.specs.Line.{mostDigits, lineBy}
-use Rattle.look.specs.Look.{sheetLine, lookOf}
+use Rattle.look.specs.Look.{lookOf}
 use Rattle.look.specs.Claims.{HeldDecides}
 use Rattle.look.specs.Steps.{State, inSheet, inLines, refusedSheet, Went, keptOf, fed, decided, stepOf, lastText, endOf, heldIn, heldOf, stateOf, lookAs, mostHeld, endedFrom, leftFrom, lastOf, linesText}
 use Rattle.octets.proofs.Parts.{take-take-append, flatten-append}
@@ -100,32 +99,32 @@ unfolding longest widest table seatRow mostSeats tailOf decimal decimalBy IsLe
 held-decides = le-by-compare longest 1024 tt
 
 -- as much as is held decides the sheet, whatever is behind it
-read-more : (t rest : List ℕ) → mostHeld ≤ length t → sheet.readOf (t ++ rest) ≡ sheet.readOf t
+read-more : (t rest : List ℕ) → mostHeld ≤ length t → sheet-reading.readOf (t ++ rest) ≡ sheet-reading.readOf t
 read-more t rest h =
     sym (longest-decides (t ++ rest) mostHeld held-decides .0)
-    ∙ ap sheet.readOf (take-append-le mostHeld t rest h)
+    ∙ ap sheet-reading.readOf (take-append-le mostHeld t rest h)
     ∙ longest-decides t mostHeld held-decides .0
 
 -- as much as is held decides the sheet, and so does all there is
-pub read-held : (t rest : List ℕ) → (length t ≡ mostHeld) ⊎ (rest ≡ []) → sheet.readOf (t ++ rest) ≡ sheet.readOf t
+pub read-held : (t rest : List ℕ) → (length t ≡ mostHeld) ⊎ (rest ≡ []) → sheet-reading.readOf (t ++ rest) ≡ sheet-reading.readOf t
 read-held t rest h =
     ⊎-elim
     (λ e. read-more t rest (omega arith))
-    (λ e. ap sheet.readOf (ap (λ (x : List ℕ). t ++ x) e ∙ append-nil t))
+    (λ e. ap sheet-reading.readOf (ap (λ (x : List ℕ). t ++ x) e ∙ append-nil t))
     h
 
 module _ (t : List ℕ) where
   -- the text of the entries that were read is the front of it
-  outcome-within : (o : sheet-reading.Outcome) → sheet-reading.outcome t ≡ o → sheet.readingOf o .used ≤ length t
-  unfolding sheet.readingOf
+  outcome-within : (o : sheet-reading.Outcome) → sheet-reading.outcome t ≡ o → sheet-reading.readingOf o .used ≤ length t
+  unfolding sheet-reading.readingOf
   outcome-within (sheet-reading.reads es) p =
       let u = outcome-reads t es p .1 in
       omega (arith, ap length (u .1), length-append (textOf es) (u .0))
   outcome-within (sheet-reading.refused k) p = zero-le
 
   -- a sheet's text lies within
-  pub used-within : sheet.readOf t .used ≤ length t
-  unfolding sheet.readOf
+  pub used-within : sheet-reading.readOf t .used ≤ length t
+  unfolding sheet-reading.readOf
   used-within = outcome-within (sheet-reading.outcome t) refl
 
 -- ---- what is held
@@ -159,7 +158,7 @@ fed-kept n line piece = omega (arith, length-take (mostDigits + 1) (leftFrom lin
 pub decided-kept : (t : List ℕ) → Kept (decided t .to)
 unfolding decided Kept
 decided-kept t =
-    let r = sheet.readOf t in
+    let r = sheet-reading.readOf t in
     pick-cases (λ (w : Went). Kept (w .to)) (eqb (r .refusal .number) 0)
     (fed (numbersOf (r .sheet)) [] (drop (r .used) t))
     (record { to = refusedSheet; text = sheetLine (r .refusal .at) })
@@ -213,7 +212,7 @@ sheet-further u s t =
 decided-append : (t piece : List ℕ) → mostHeld ≤ length t → Then (decided t) piece (decided (t ++ piece))
 unfolding decided stepOf fed
 decided-append t piece h =
-    let r = sheet.readOf t in
+    let r = sheet-reading.readOf t in
     rw (read-more t piece h, drop-append-le (r .used) t piece (used-within t))
     (⊎-elim
     (λ b. rw (T-true (eqb (r .refusal .number) 0) b) (fed-append (numbersOf (r .sheet)) [] (drop (r .used) t) piece))
@@ -270,7 +269,7 @@ last-kept n (c ∷ line) = ap (λ (x : List ℕ). x ++ []) (lineBy-kept n (c ∷
 decided-whole : (t : List ℕ) → decided t .text ++ lastText (decided t .to) ≡ lookOf t
 unfolding decided lookOf fed linesText lastText
 decided-whole t =
-    let r = sheet.readOf t in
+    let r = sheet-reading.readOf t in
     let n = numbersOf (r .sheet) in
     let u = drop (r .used) t in
     ⊎-elim
@@ -287,7 +286,7 @@ decided-whole t =
 decided-end : (t : List ℕ) → endOf (decided t .to) ≡ lastText (decided t .to)
 unfolding decided fed endOf lastText
 decided-end t =
-    let r = sheet.readOf t in
+    let r = sheet-reading.readOf t in
     ⊎-elim (λ b. rw (T-true (eqb (r .refusal .number) 0) b)) (λ e. rw e) (decide (eqb (r .refusal .number) 0))
 
 -- the whole in one piece

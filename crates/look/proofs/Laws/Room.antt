@@ -13,17 +13,17 @@ use Rattle.octets.specs.Buffer.{putAt}
 use Rattle.octets.proofs.Choice.{le-or-lt, pick-cases}
 use Rattle.octets.proofs.Buffer.{over-putAt, put-both}
 use Rattle.octets.proofs.Text.{length-decimal}
-use Rattle.sheet.specs.Value.{noRefusal, readOf}
-use Rattle.sheet.proofs.Laws.Readings.{read-at}
+use Rattle.sheet_text.specs.Reading.{noRefusal, readOf}
+use Rattle.sheet_text.proofs.Laws.Readings.{read-at}
 use Rattle.packet.specs.declared.Numbers.{Numbers}
 use Rattle.packet.specs.Kind.{numbersOf}
 use Rattle.writing.specs.Writing.{wrote, refusedWith, told, after}
+use Rattle.shown.specs.Line.{sheetLine}
+use Rattle.shown.proofs.Laws.Fits.{length-sheetLine}
 use Rattle.look.specs.declared.Phase.{Phase}
 use Rattle.look.specs.declared.Phase.the-variants.{Sheet, Lines, Refused}
 use Rattle.look.specs.declared.Look.{Look}
 use Rattle.look.specs.declared.Stepped.{Stepped}
-use Rattle.look.specs.Line.{numberLine}
-use Rattle.look.specs.Look.{sheetLine}
 use Rattle.look.specs.Steps.{mostHeld, heldIn, heldOf, State, Went, inSheet, inLines, refusedSheet, stateOf, lookAs, fed, decided, stepOf, roomAsked, noRoom, hasRoom, steppedOf, afterStep, lastText, endOf, endAs, leftFrom, linesText}
 use Rattle.look.specs.Inner.{WentTo}
 use Rattle.look.proofs.Laws.Fits.{lines-fit, last-fits}
@@ -34,8 +34,7 @@ use Rattle.look.proofs.Laws.Steps.{held-none, kept-short, kept-held, st
 
 -- it is no longer than the line that it names, and some
 pub sheetLine-length : (n : ℕ) → length (sheetLine n) ≤ n + 8
-unfolding sheetLine numberLine
-sheetLine-length n = simp length-append (omega (arith, length-decimal n))
+sheetLine-length n = omega (arith, length-sheetLine n, length-decimal n)
 
 -- ---- what a piece prints, and what is held behind it
 

@@ -14,23 +14,24 @@ use Rattle.octets.specs.Choice.{every, front}
 use Rattle.octets.specs.Buffer.{putAt, padded}
 use Rattle.octets.proofs.Choice.{T-true, true-T, T-and-left, T-and-right, every-append, every-front, front-split, front-stop}
 use Rattle.octets.proofs.Buffer.{putAt-next, putAt-nil, put-both, putAt-zeros, length-putAt, length-padded}
-use Rattle.sheet.specs.Line.{lf}
-use Rattle.sheet.specs.Value.{readOf}
+use Rattle.sheet_text.specs.Line.{lf}
+use Rattle.sheet_text.specs.Reading.{readOf}
 use Rattle.packet.specs.Kind.{numbersOf}
 use Rattle.packet.specs.declared.Numbers.{Numbers}
+use Rattle.shown.specs.Line.{mostDigits, lineBy, sheetLine, lineRoom}
+use Rattle.shown.specs.Promises.{Put, put≡}
+use Rattle.shown.proofs.Laws.Fits.{line-fits, fitting-whole}
 use Rattle.look.specs.declared.held.Held.{Held}
 use Rattle.look.specs.declared.Phase.the-variants.{Sheet, Lines, Refused}
 use Rattle.look.specs.declared.Look.{Look}
 use Rattle.look.specs.Lines.{inLine}
-use Rattle.look.specs.Line.{mostDigits, lineBy}
-use Rattle.look.specs.Look.{sheetLine}
 use Rattle.look.specs.Claims.{oneLine}
 use Rattle.look.specs.Steps.{heldIn, heldOf, keptOf, mostHeld, inSheet, inLines, refusedSheet, stateOf, lookAs, lastText, fed, decided, stepOf, endedFrom, leftFrom, lastOf, linesText}
 use Rattle.look.specs.Inner.{WentTo}
 use Rattle.octets.proofs.Parts.{take-both, take-front}
 use Rattle.look.proofs.Laws.Lines.{ended-none, left-none, ended-lf, left-lf}
 use Rattle.look.proofs.Laws.Line.{lineBy-kept}
-use Rattle.look.proofs.Laws.Fits.{line-fits, lines-fit}
+use Rattle.look.proofs.Laws.Fits.{lines-fit}
 use Rattle.look.proofs.Laws.Pieces.{held-back, read-held, used-within, fed-append}
 
 -- ---- what is held
@@ -96,6 +97,22 @@ kept-within h line e =
 pub kept-prints : (n : Numbers) (h : Held) (line : List ℕ) → h ≡ heldOf (keptOf line) → lineBy n (take (h .len) (h .octets)) ≡ lineBy n line
 unfolding heldIn
 kept-prints n h line e = ap (λ (k : Held). lineBy n (heldIn k)) e ∙ (ap (lineBy n) (kept-held line) ∙ lineBy-kept n line)
+
+-- ---- a line is put
+
+-- with the room that is asked for, its text is put
+pub line-put : (n : Numbers) (line out : List ℕ) (at r : ℕ) (now : List ℕ) → lineRoom line ≤ length out - at → put≡ n line out at r now
+    → Put (lineBy n line) out at r now
+line-put n line out at r now h e = rw (fitting-whole (lineRoom line) (length out) at (lineBy n line) h) at e
+
+-- and of a line that is kept with the room for the whole line
+pub kept-put : (n : Numbers) (h : Held) (line out : List ℕ) (at r : ℕ) (now : List ℕ) → h ≡ heldOf (keptOf line) → lineRoom line ≤ length out - at
+    → put≡ n (take (h .len) (h .octets)) out at r now → Put (lineBy n line) out at r now
+kept-put n h line out at r now e room p =
+    let s = take (h .len) (h .octets) in
+    let k : s ≡ keptOf line = unfold heldIn in ap heldIn e ∙ kept-held line in
+    let short : length s ≤ length line = rw k (kept-short line) in
+    rw (kept-prints n h line e) at (line-put n s out at r now (omega arith) p)
 
 -- ---- the last line
 
@@ -235,23 +252,25 @@ module _ (n : Numbers) (piece : List ℕ) (from : ℕ) (out : List ℕ) (at left
         let k : length line ≡ to - left = length-take-le (to - left) rest-of (omega (arith, inside-it)) in
         omega (arith, line-fits n line .1, u .room)
 
-    pub upto-fits : end + length (lineBy n line) ≤ length now
-    upto-fits = rw (u .put, length-putAt) (omega (arith, room-after))
+    room-asked : lineRoom line ≤ length now - end
+    room-asked =
+        let k : length line ≡ to - left = length-take-le (to - left) rest-of (omega (arith, inside-it)) in
+        rw (u .put, length-putAt) (omega (arith, u .room))
 
     -- and behind it the lines go on
-    pub upto-next : (end′ : ℕ) (now′ : List ℕ) → end′ ≡ end + length (lineBy n line) → now′ ≡ putAt now end (lineBy n line)
-        → Upto n piece from out at (to + 1) end′ now′
-    upto-next end′ now′ i j =
+    pub upto-next : (end′ : ℕ) (now′ : List ℕ) → put≡ n line now end end′ now′ → Upto n piece from out at (to + 1) end′ now′
+    upto-next end′ now′ p =
+        let done = line-put n line now end end′ now′ room-asked p in
         let k : left + (to - left + 1) ≡ to + 1 = omega arith in
         let behind : drop (to - left + 1) rest-of ≡ drop (to + 1) piece = rw (drop-drop, k) in
         record {
           text = u .text ++ lineBy n line;
           whole = u .whole ∙ rw (lines-first [] rest-of (to - left) size inside-it n, behind, append-assoc);
           rest = u .rest ∙ rw (left-behind [] rest-of (to - left) size inside-it, behind);
-          put = j ∙ rw (u .put) (putAt-next out at (u .text) (lineBy n line) end (u .past) (omega (arith, room-after)));
-          past = rw length-append (omega (arith, u .past));
+          put = done .0 ∙ rw (u .put) (putAt-next out at (u .text) (lineBy n line) end (u .past) (omega (arith, room-after)));
+          past = rw length-append (omega (arith, u .past, done .1));
           inside = omega arith;
-          room = omega (arith, room-after);
+          room = omega (arith, room-after, done .1);
         }
 
   -- where no line ends any more, all of them are printed
@@ -276,7 +295,11 @@ module _ (n : Numbers) (xs piece : List ℕ) (to : ℕ) (e : to ≡ length (fron
   abbrev others : List ℕ
   others = drop (to + 1) piece
 
-  -- there is room for it and for ten octets for each behind it
+  -- there is the room that is asked for it
+  pub first-room : lineRoom first ≤ length out - at
+  first-room = let k : length first ≡ length xs + to = rw (length-append, length-take-le to piece (omega arith)) in omega arith
+
+  -- and room for it and for ten octets for each behind it
   pub first-fits : at + length (lineBy n first) + 10 * (length piece - (to + 1)) ≤ length out
   first-fits =
       let k : length first ≡ length xs + to = rw (length-append, length-take-le to piece (omega arith)) in

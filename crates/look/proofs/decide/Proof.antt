@@ -7,16 +7,16 @@ use borrow.Author.Needs.{needs}
 use native.Mathlib.Omega.{arith}
 use lib.ListN.{length, take, drop, length-drop}
 use lib.Seq.{length-take-le, take-all}
-use Rattle.octets.specs.Buffer.{putAt}
 use Rattle.octets.proofs.Buffer.{length-putAt}
-use Rattle.sheet.specs.Value.{readOf}
+use Rattle.sheet_text.specs.Reading.{readOf}
+use Rattle.sheet_text.proofs.Laws.Readings.{read-at}
 use Rattle.packet.specs.Kind.{numbersOf}
-use Rattle.look.specs.Line.{numberLine}
-use Rattle.look.specs.Look.{sheetLine}
+use Rattle.shown.specs.Line.{sheetLine}
+use Rattle.shown.specs.Promises.{Put}
+use Rattle.shown.proofs.Laws.Fits.{fitting-whole}
 use Rattle.look.specs.Steps.{heldIn, heldOf, keptOf, leftFrom, linesText}
 use Rattle.look.proofs.Laws.Pieces.{used-within}
 use Rattle.look.proofs.Laws.Steps.{held-within, held-most, held-all, held-none, decided-refused, decided-read, second-fits, went-both}
-use Rattle.sheet.proofs.Laws.Readings.{read-at}
 use Rattle.look.proofs.Laws.Room.{sheetLine-length}
 use Rattle.look.proofs.decide.Statement.{statement}
 use Rattle.look.proofs.decide.Tie as tie
@@ -72,17 +72,8 @@ slice-aggregate-text c =
 read-requires : tie.Need-read-requires
 read-requires c κs = search needs
 
-slice-aggregate-put-line : tie.Need-slice-aggregate-put-line
-slice-aggregate-put-line c = search needs
-
-put-line-requires : tie.Need-put-line-requires
-unfolding sheetLine numberLine
-put-line-requires c κs =
-    let read = c .before .before .before .before .before in
-    let start = read .before .before .before .before .before .before in
-    let n = read .read .result .refusal .at in
-    let small : n ≤ length (heldIn (start .args .held)) + 1 = rw (sheet read) (read-at (heldIn (start .args .held))) in
-    omega (arith, sheetLine-length n, most start, start .pre .1)
+put-sheet-requires : tie.Need-put-sheet-requires
+put-sheet-requires c κs = search needs
 
 refused-requires : tie.Need-refused-requires
 refused-requires c κs = search needs
@@ -91,18 +82,22 @@ same-length : tie.Need-same-length
 same-length c = search needs
 
 -- the refusal is printed
-printed : (c : tie.After-put-line)
-    → let read = c .before .before .before .before .before .before in
+printed : (c : tie.After-put-sheet)
+    → let read = c .before .before .before .before .before in
     let a = read .before .before .before .before .before .before .args in
-    let line = sheetLine (readOf (heldIn (a .held)) .refusal .at) in
-    (c .put-line .last .0 ≡ putAt (a .out .now) 0 line) × (c .put-line .result ≡ 0 + length line)
-unfolding sheetLine numberLine
-printed c = rw (← sheet (c .before .before .before .before .before .before)) (c .put-line .ensures)
+    Put (sheetLine (readOf (heldIn (a .held)) .refusal .at)) (a .out .now) 0 (c .put-sheet .result) (c .put-sheet .last .0)
+printed c =
+    let read = c .before .before .before .before .before in
+    let start = read .before .before .before .before .before .before in
+    let n = readOf (heldIn (start .args .held)) .refusal .at in
+    let fits : length (sheetLine n) ≤ length (start .args .out .now) - 0 =
+    omega (arith, sheetLine-length n, read-at (heldIn (start .args .held)), most start, start .pre .1) in
+    rw (fitting-whole (length (sheetLine n)) (length (start .args .out .now)) 0 (sheetLine n) fits) at (rw (sheet read) at (c .put-sheet .ensures))
 
 returns : tie.Need-returns
 returns c =
     let put = c .before .before .before in
-    let then1 = put .before .before .before in
+    let then1 = put .before .before in
     let read = then1 .before .before .before in
     let start = read .before .before .before .before .before .before in
     let a = start .args in
@@ -136,8 +131,7 @@ lines : (c : tie.After-put-lines)
     let r = readOf (heldIn (a .held)) in
     let n = numbersOf (r .sheet) in
     let s = drop (r .used) (heldIn (a .held)) in
-    (c .put-lines .last .0 ≡ putAt (a .out .now) 0 (linesText n [] s))
-    × (c .put-lines .result .end ≡ 0 + length (linesText n [] s))
+    Put (linesText n [] s) (a .out .now) 0 (c .put-lines .result .end) (c .put-lines .last .0)
     × (c .put-lines .result .held ≡ heldOf (keptOf (leftFrom [] s)))
 lines c =
     let none = c .before .before in
@@ -151,10 +145,10 @@ in-lines-requires c κs =
     let read = put .before .before .before .before .before .before .before .before in
     let a = read .before .before .before .before .before .before .args in
     let r = readOf (heldIn (a .held)) in
-    let l : length (put .put-lines .last .0) ≡ length (a .out .now) = ap length (lines put .0) ∙ length-putAt _ _ _ in
+    let l : length (put .put-lines .last .0) ≡ length (a .out .now) = ap length (lines put .0 .0) ∙ length-putAt _ _ _ in
     rw l
     (second-fits (numbersOf (r .sheet)) [] (drop (r .used) (heldIn (a .held))) (a .rest .now) (a .out .now) 0 (room read)
-    (put .put-lines .result .end) (lines put .1) (put .put-lines .result .held) (lines put .2))
+    (put .put-lines .result .end) (lines put .0 .1) (put .put-lines .result .held) (lines put .1))
 
 same-length-2 : tie.Need-same-length-2
 same-length-2 c = search needs
@@ -171,9 +165,9 @@ returns-2 c =
     let n : numbers .numbers-of .result ≡ numbersOf (r .sheet) = numbers .numbers-of .ensures ∙ rw (sheet read) in
     rw (decided-read (heldIn (a .held)) (a .rest .now) (start .pre .0) (rw (sheet read) at (numbers .before .if1 .left)))
     (went-both (numbersOf (r .sheet)) [] (drop (r .used) (heldIn (a .held))) (a .rest .now) (a .out .now) 0 (room read)
-    (put .put-lines .result .end) (lines put .1) (put .put-lines .result .held) (lines put .2)
+    (put .put-lines .result .end) (lines put .0 .1) (put .put-lines .result .held) (lines put .1)
     (put .put-lines .last .0) (went .in-lines .result .look) (went .in-lines .result .end) (went .in-lines .last .0)
-    (lines put .0) (rw n at (went .in-lines .ensures)))
+    (lines put .0 .0) (rw n at (went .in-lines .ensures)))
 
 pub decide-spec : {M : Type 1} → statement M
 decide-spec =
@@ -183,8 +177,7 @@ decide-spec =
     array-share-prefix-octets
     slice-aggregate-text
     read-requires
-    slice-aggregate-put-line
-    put-line-requires
+    put-sheet-requires
     refused-requires
     same-length
     returns

@@ -14,7 +14,7 @@ returns : tie.Need-returns
 unfolding fed lookAs linesText
 returns c =
     let e = c .before .before .before .put-lines .ensures in
-    record { kept = rw (e .2); past = e .1; put = e .0 }
+    record { kept = rw (e .1); past = e .0 .1; put = e .0 .0 }
 
 pub in-lines-spec : {M : Type 1} → statement M
 in-lines-spec = tie.close (tie.spec put-lines-requires same-length returns)

@@ -13,10 +13,10 @@ use borrow.Author.Tests.{not-true, not-false}
 use Rattle.octets.specs.Choice.{pick, every, some-of}
 use Rattle.octets.proofs.Choice.{or-false-both, T-true, true-T, decide, T-and, T-and-left, T-and-right, T-or-left, T-or-right, pick-cases}
 use Rattle.octets.proofs.Keep.{keep-keep}
-use Rattle.packet.specs.declared.field.Field.{Field}
+use Rattle.fields.specs.declared.field.Field.{Field}
+use Rattle.fields.specs.Walk.{fieldsOf}
 use Rattle.packet.specs.declared.kind.Form.the-variants.{Barred}
 use Rattle.packet.specs.declared.kind.Slot.{Slot}
-use Rattle.packet.specs.Walk.{fieldsOf}
 use Rattle.packet.specs.Kind.{Need, always, maybe, unlessGranted, Row, row, settled, mayLack, mayHave}
 use Rattle.packet.specs.Judge.{Held, fits, fieldsWith, slotsWith, Filled, filledBehind, filledIn, isAbsent, lacking, faultOf, heldBy}
 use Rattle.packet.specs.Claims.{useful, Arranged, present, Allows, AllowsAll}

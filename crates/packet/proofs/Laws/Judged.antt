@@ -11,15 +11,15 @@ use borrow.Author.Tests.{eq-eqb, ne-eqb}
 use Rattle.octets.specs.Choice.{pick, every}
 use Rattle.octets.specs.Big.{bigAt}
 use Rattle.octets.proofs.Choice.{T-and-left, every-append}
-use Rattle.packet.specs.declared.field.Field.{Field}
+use Rattle.fields.specs.declared.field.Field.{Field}
+use Rattle.fields.specs.Header.{firstField}
+use Rattle.fields.specs.Walk.{nextAt, fieldRight, fieldAt, fieldsFrom, stopFrom, fieldsOf}
+use Rattle.fields.proofs.Laws.Walk.{next-after, right-end, fieldsFrom-right, fieldsFrom-wrong, stopFrom-right, stopFrom-whole}
+use Rattle.fields.proofs.Laws.Fields.{coded, every-coded}
 use Rattle.packet.specs.declared.kind.Slot.{Slot}
 use Rattle.packet.specs.declared.judge.Use.the-variants.{Fills, Repeats, Skipped}
-use Rattle.packet.specs.Header.{firstField}
-use Rattle.packet.specs.Walk.{nextAt, fieldRight, fieldAt, fieldsFrom, stopFrom, fieldsOf}
 use Rattle.packet.specs.Judge.{fits, numberAt, fieldsWith, grantIn, granted, atFault, faultAmong, missingAt, firstOf, faultOf}
 use Rattle.packet.specs.Inner.{Walked, JudgedIs, placesIn, PlacesInside, placed, openIn, lackIn}
-use Rattle.packet.proofs.Laws.Walk.{next-after, right-end, fieldsFrom-right, fieldsFrom-wrong, stopFrom-right, stopFrom-whole}
-use Rattle.packet.proofs.Laws.Fields.{coded, every-coded}
 use Rattle.packet.proofs.Laws.Slots.{blank}
 use Rattle.packet.proofs.Laws.Places.{places-none, inside-places, lackIn-places, useIn, fills-inside, fills-fault, fills-places, repeats-fault, skipped-fault, skipped-places}
 

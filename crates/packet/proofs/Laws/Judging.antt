@@ -12,7 +12,7 @@ use Rattle.octets.specs.Choice.{pick, every, some-of}
 use Rattle.octets.proofs.Lists.{getElem?-drop}
 use Rattle.octets.proofs.Choice.{T-true, false-T, decide, T-and, T-and-left, T-and-right, unless, implies, pick-cases, every-drop}
 use Rattle.octets.proofs.Keep.{every-keep, keep-none, drop-keep-snoc}
-use Rattle.packet.specs.declared.field.Field.{Field}
+use Rattle.fields.specs.declared.field.Field.{Field}
 use Rattle.packet.specs.declared.kind.Form.the-variants.{Barred}
 use Rattle.packet.specs.declared.kind.Slot.{Slot}
 use Rattle.packet.specs.Judge.{fits, fieldsWith, slotsWith, formFor, atFault, faultAmong, filledBehind, filledIn, lacking, missingAt, firstOf, faultOf}

@@ -9,8 +9,8 @@ use lib.ListN.{length, getD}
 use lib.Dec.{eqb, lit<}
 use Rattle.octets.specs.Choice.{pick, same}
 use Rattle.octets.specs.Big.{bigAt, bigOf}
+use Rattle.fields.specs.Header.{lettersIn, numberIn}
 use Rattle.packet.specs.declared.Numbers.{Numbers}
-use Rattle.packet.specs.Header.{lettersIn, numberIn}
 use Rattle.packet.specs.Kind.{Kind, kinds, hasKind, kindOf, settled, slotsOf}
 use Rattle.packet.specs.Inner.{mcv2Kind, kindNumbered}
 use Rattle.octets.proofs.Choice.{NoneFrom, none-from, pick-same}

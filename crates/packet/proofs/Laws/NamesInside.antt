@@ -11,18 +11,18 @@ use Rattle.octets.specs.Choice.{every}
 use Rattle.octets.proofs.Choice.{true-T, T-and}
 use Rattle.sheet.specs.Judge.{userId}
 use Rattle.sheet.specs.Value.{validAlone}
-use Rattle.packet.specs.declared.field.Field.{Field}
+use Rattle.fields.specs.declared.field.Field.{Field}
+use Rattle.fields.specs.Header.{sizeRight, headRight}
+use Rattle.fields.specs.Walk.{fieldsOf, valueOf, whole}
+use Rattle.fields.proofs.Laws.Fields.{coded-says}
 use Rattle.packet.specs.declared.kind.Form.{Form}
 use Rattle.packet.specs.declared.kind.Form.the-variants.{UserId, Number, Cause, Result, MessageType, Barred}
 use Rattle.packet.specs.declared.Numbers.{Numbers}
 use Rattle.packet.specs.declared.kind.Slot.{Slot}
-use Rattle.packet.specs.Header.{sizeRight, headRight}
-use Rattle.packet.specs.Walk.{fieldsOf, valueOf, whole}
 use Rattle.packet.specs.Kind.{Kind, kindOf, numbersOf}
 use Rattle.packet.specs.Judge.{Held, fits, heldIn, Filled, filledIn, faultOf, heldBy}
 use Rattle.packet.specs.Reading.{Outcome, reads, check, readAs, readBy, readOf, slotsIn, messageOf}
 use Rattle.packet.specs.Claims.{nameRight, NamesRight}
-use Rattle.packet.proofs.Laws.Fields.{coded-says}
 use Rattle.packet.proofs.Laws.Sound.{filled, Sound, AllSound, fault-sound}
 use Rattle.packet.proofs.Laws.Accepts.{messageOf-reads}
 

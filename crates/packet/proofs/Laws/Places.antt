@@ -17,7 +17,8 @@ use Rattle.octets.proofs.Choice.{T-true, decide, T-and, T-and-left, T-and-right
 use Rattle.octets.proofs.Lists.{getElem?-snoc, getElem?-snoc-other}
 use Rattle.octets.proofs.Keep.{every-kept, keep-snoc-true, keep-snoc-false}
 use Rattle.octets.proofs.Places.{eqb-comm}
-use Rattle.packet.specs.declared.field.Field.{Field}
+use Rattle.fields.specs.declared.field.Field.{Field}
+use Rattle.fields.proofs.Laws.Fields.{coded, coded-says}
 use Rattle.packet.specs.declared.kind.Form.{Form}
 use Rattle.packet.specs.declared.kind.Form.the-variants.{Barred}
 use Rattle.packet.specs.declared.kind.Slot.{Slot}
@@ -25,7 +26,6 @@ use Rattle.packet.specs.declared.judge.Use.{Use}
 use Rattle.packet.specs.declared.judge.Use.the-variants.{Fills, Repeats, Skipped}
 use Rattle.packet.specs.Judge.{fits, fieldsWith, slotsWith, formFor, atFault, Filled, filledBehind, filledIn, isAbsent, lacking}
 use Rattle.packet.specs.Inner.{placeOf, placesIn, PlacesInside, openIn, lackIn, later, again}
-use Rattle.packet.proofs.Laws.Fields.{coded, coded-says}
 use Rattle.packet.proofs.Laws.Judging.{inUse, slotsWith-none}
 use Rattle.packet.proofs.Laws.Slots.{blank}
 

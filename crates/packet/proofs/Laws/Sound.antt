@@ -10,11 +10,11 @@ use lib.Dec.{T, eqb, eqb-refl}
 use Rattle.octets.specs.Choice.{every, some-of}
 use Rattle.octets.proofs.Choice.{or-false-both, every-drop, T-and-left, T-or-left, T-or-right}
 use Rattle.octets.proofs.Keep.{every-kept}
-use Rattle.packet.specs.declared.field.Field.{Field}
+use Rattle.fields.specs.declared.field.Field.{Field}
+use Rattle.fields.specs.Walk.{fieldsOf}
+use Rattle.fields.proofs.Laws.Fields.{coded, every-coded}
 use Rattle.packet.specs.declared.kind.Slot.{Slot}
-use Rattle.packet.specs.Walk.{fieldsOf}
 use Rattle.packet.specs.Judge.{fits, fieldsWith, slotsWith, Filled, filledBehind, filledIn, isAbsent, lacking, faultOf}
-use Rattle.packet.proofs.Laws.Fields.{coded, every-coded}
 use Rattle.packet.proofs.Laws.Judging.{fitting, slotsWith-own, inUse, faultOf-none, leftFor, every-leftFor, filledBehind-cons, fitting-next}
 
 -- ---- fields that fill slots

@@ -11,7 +11,7 @@ use Rattle.octets.specs.Buffer.{padded}
 use Rattle.octets.proofs.Choice.{or-false-both, some-of-append}
 use Rattle.octets.proofs.Keep.{keep-append, keep-none}
 use Rattle.octets.proofs.Places.{eqb-comm}
-use Rattle.packet.specs.declared.field.Field.{Field}
+use Rattle.fields.specs.declared.field.Field.{Field}
 use Rattle.packet.specs.declared.kind.Slot.{Slot}
 use Rattle.packet.specs.Judge.{fieldsWith, slotsWith, formFor, atFault, faultAmong, filledBehind, filledIn, isAbsent, lacking, missingAt, faultOf}
 use Rattle.packet.specs.Inner.{placesIn}

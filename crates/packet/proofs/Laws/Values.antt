@@ -13,19 +13,19 @@ use Rattle.octets.specs.Choice.{pick}
 use Rattle.octets.specs.Buffer.{padded}
 use Rattle.octets.proofs.Buffer.{getD-padded}
 use Rattle.octets.proofs.Choice.{T-true, false-T, T-and-left, T-and-right, pick-cases}
-use Rattle.packet.specs.declared.field.Field.{Field}
+use Rattle.fields.specs.declared.field.Field.{Field}
+use Rattle.fields.specs.Header.{ackAsked, ssrcIn}
+use Rattle.fields.specs.Walk.{fieldsOf, whole}
+use Rattle.fields.proofs.Laws.Fields.{coded, coded-says, fieldsOf-high}
 use Rattle.packet.specs.declared.Numbers.{Numbers}
 use Rattle.packet.specs.declared.kind.Form.{Form}
 use Rattle.packet.specs.declared.kind.Form.the-variants.{UserId, Number, Cause, Result, MessageType}
 use Rattle.packet.specs.declared.kind.Slot.{Slot}
-use Rattle.packet.specs.Header.{ackAsked, ssrcIn}
-use Rattle.packet.specs.Walk.{fieldsOf, whole}
 use Rattle.packet.specs.Kind.{unlessGranted, row, Kind, kinds, settled, slotsOf}
 use Rattle.packet.specs.Judge.{Held, absent, given, numberAt, fits, heldIn, slotsWith, grantIn, granted, filledBehind, filledIn, faultOf, heldBy}
 use Rattle.packet.specs.Reading.{refused, reads, slotsIn, messageOf, readAs}
 use Rattle.packet.specs.Inner.{kindNumbered, noSlot, slotsBy, slotsNumbered, placeOf, placesIn, numberFrom, nameFrom, indicatorFrom, resultFrom, causeFrom, valuesFrom}
 use Rattle.packet.proofs.Laws.Kinds.{of-seven, kindNumbered-some, kindNumbered-kind, slotsOf-granted}
-use Rattle.packet.proofs.Laws.Fields.{coded, coded-says, fieldsOf-high}
 use Rattle.packet.proofs.Laws.Sound.{filled, Sound, AllSound, fault-sound}
 use Rattle.packet.proofs.Laws.Unused.{Apart, faultOf-padded, placesIn-padded}
 

@@ -1,6 +1,6 @@
 -- `packet::read_by` meets its contract: the checks in their order, each with the refusal that `readBy` gives there.
 -- Assumes nothing.
-use mathlib.Core.Path.{_≡_, refl, sym, _∙_}
+use mathlib.Core.Path.{_≡_, sym, _∙_}
 use Prim.Native.Nat.{_≤_, _<_}
 use native.Mathlib.Nat.{pos-of-ne-zero, le-antisymm}
 use borrow.Author.Needs.{needs}
@@ -8,14 +8,15 @@ use borrow.Author.Tests.{ne-eqb}
 use native.Mathlib.Omega.{arith}
 use denote.Ref.{now}
 use lib.ListN.{length}
-use Rattle.packet.specs.Header.{firstField}
-use Rattle.packet.specs.Walk.{stopFrom, whole}
+use Rattle.fields.specs.Header.{firstField}
+use Rattle.fields.specs.Walk.{stopFrom, whole}
+use Rattle.fields.specs.Claims.{Headed}
+use Rattle.fields.proofs.Laws.Sized.{Sized, sized}
+use Rattle.fields.proofs.Laws.Checks.{failedCheck-exactly}
+use Rattle.fields.proofs.Laws.Walk.{stopFrom-le}
 use Rattle.packet.specs.Reading.{readAs, readBy}
 use Rattle.packet.specs.Inner.{kindNumbered}
-use Rattle.packet.specs.Claims.{Headed}
-use Rattle.packet.proofs.Laws.Sized.{Sized, sized}
-use Rattle.packet.proofs.Laws.Checks.{readBy-past, readBy-failed, failedCheck-exactly}
-use Rattle.packet.proofs.Laws.Walk.{stopFrom-le}
+use Rattle.packet.proofs.Laws.Reading.{readBy-past, readBy-failed}
 use Rattle.packet.proofs.Laws.Values.{readAs-cut}
 use Rattle.packet.proofs.read_by.Statement.{statement}
 use Rattle.packet.proofs.read_by.Tie as tie
@@ -61,7 +62,7 @@ unfolding kindNumbered readAs
 returns-2 c = rw (c .refused2 .ensures, past-head (c .before .before), c .before .if2 .taken)
 
 walk-requires : tie.Need-walk-requires
-walk-requires c κs = (past-size (c .before .before .before) .words, refl)
+walk-requires c κs = search needs
 
 refused-requires-3 : tie.Need-refused-requires-3
 refused-requires-3 c κs = search needs

@@ -11,8 +11,8 @@ use denote.Ref.{now}
 use lib.ListN.{length}
 use lib.Dec.{T, eqb}
 use Rattle.octets.proofs.Choice.{true-T}
-use Rattle.packet.specs.Header.{firstField}
-use Rattle.packet.specs.Walk.{fieldsOf, stopFrom, whole}
+use Rattle.fields.specs.Header.{firstField}
+use Rattle.fields.specs.Walk.{fieldsOf, stopFrom, whole}
 use Rattle.packet.specs.Judge.{granted}
 use Rattle.packet.specs.Inner.{Walked, JudgedIs, placed, slotsNumbered}
 use Rattle.packet.proofs.Laws.Judged.{placed-some}

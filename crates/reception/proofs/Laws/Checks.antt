@@ -2,43 +2,41 @@
 use mathlib.Core.Path.{_≡_, refl, sym, ap, _∙_, subst}
 use mathlib.Core.Bool.{Bool, true, false, _&&_, and-assoc}
 use mathlib.Core.List.{List}
-use Prim.Native.Nat.{ℕ, _<_, _≤_}
+use Prim.Native.Nat.{ℕ, _≤_}
 use lib.ListN.{length}
 use Rattle.sheet.specs.declared.Sheet.{Sheet}
 use Rattle.sheet.specs.Table.{mostSeats}
 use Rattle.sheet.specs.Value.{sheetFrom, sheetIn, validAlone}
 use Rattle.sheet.specs.Promises.{numbers-of≡}
 use Rattle.sheet.proofs.Laws.Values.{sheetIn-counted, valid-counted, sheetIn-own}
-use Rattle.reception.specs.declared.Record.{Record}
-use Rattle.reception.specs.declared.Event.{Event}
+use Rattle.streams.specs.declared.Record.{Record}
+use Rattle.streams.specs.declared.Event.{Event}
+use Rattle.streams.specs.declared.stream.Rules.{Rules}
+use Rattle.streams.specs.Record.{rulesOf, onSheet, legal}
+use Rattle.streams.specs.Table.{senderOn}
 use Rattle.reception.specs.declared.Admitted.{Admitted}
 use Rattle.reception.specs.declared.Admitted.the-variants.{Under}
-use Rattle.reception.specs.declared.Seen.{Seen}
-use Rattle.reception.specs.declared.stream.Rules.{Rules}
-use Rattle.reception.specs.Record.{rulesOf, onSheet, legal, own}
-use Rattle.reception.specs.Table.{senderOn}
-use Rattle.reception.specs.Steps.{Said, gives, refuses, Left, leaving, check, Try, seenOf, readOf, attemptOf, replyOf, stored, storeOf, seenSaid}
-use Rattle.reception.specs.Inner.{admitted, admittedSaid, past, ownSeen, triedOn, settled, settledOf}
-use Rattle.reception.specs.Promises.{read≡}
-use Rattle.reception.proofs.Laws.Steps.{seats-le-8, on-sheet-below, check-gives, gives-same, seen-gives}
+use Rattle.reception.specs.Steps.{Said, gives, check, Try, seenOf, attemptOf, replyOf}
+use Rattle.reception.specs.Inner.{admitted, admittedSaid, past, ownSeen, triedOn, settled}
+use Rattle.reception.proofs.Laws.Steps.{seats-le-8, check-gives, gives-same, seen-gives}
 
 -- ---- a stream that is admitted
 
-pub record Admits (s : Sheet) (stream : ℕ) (q : Rules) : Type 0 where
-  pub fits : (stream < 8) × (q .seats ≤ 8)
+pub record Admits (s : Sheet) (q : Rules) : Type 0 where
+  pub few : q .seats ≤ 8
   pub same : rulesOf s ≡ q
 
--- it is on a valid sheet, which has at most eight seats, and judged by that sheet's rules
-admitted-gives : (s : Sheet) (stream : ℕ) (q : Rules) → admitted s stream ≡ gives q → Admits s stream q
+-- the sheet is valid, so that it has at most eight seats, and the stream is judged by its rules
+admitted-gives : (s : Sheet) (stream : ℕ) (q : Rules) → admitted s stream ≡ gives q → Admits s q
 unfolding admitted
 admitted-gives s stream q p =
     let sheet = check-gives (validAlone s) 12 (check (onSheet (rulesOf s) stream) 9 (gives (rulesOf s))) q p in
     let rest = check-gives (onSheet (rulesOf s) stream) 9 (gives (rulesOf s)) q (sheet .1) in
     let same = gives-same (rest .1) in
-    record { fits = rw (← same) (on-sheet-below s stream (sheet .0) (rest .0), seats-le-8 s (sheet .0)); same = same }
+    record { few = rw (← same) (seats-le-8 s (sheet .0)); same = same }
 
 -- so it is where the code says by which rules
-pub under-admits : (s : Sheet) (stream : ℕ) (r : Admitted) (q : Rules) → admittedSaid r ≡ admitted s stream → r ≡ Under q → Admits s stream q
+pub under-admits : (s : Sheet) (stream : ℕ) (r : Admitted) (q : Rules) → admittedSaid r ≡ admitted s stream → r ≡ Under q → Admits s q
 under-admits s stream r q e u = admitted-gives s stream q (sym e ∙ ap admittedSaid u)
 
 -- ---- checks behind others
@@ -63,40 +61,12 @@ attempt-past s x e =
     more-past (validAlone s) (onSheet q (e .stream)) (senderOn q (e .what) && legal q (e .stream) x) q _
 
 -- a store goes on where a read gave the own record
-reply-past : (s : Sheet) (a : Try) (x : Record) → replyOf s a x ≡ past (seenOf s (a .stream) x) (settled (rulesOf s) a x)
+pub reply-past : (s : Sheet) (a : Try) (x : Record) → replyOf s a x ≡ past (seenOf s (a .stream) x) (settled (rulesOf s) a x)
 unfolding replyOf seenOf settled
 reply-past s a x =
     let q = rulesOf s in
     let good = legal q (a .stream) in
     rw (← and-assoc) (more-past (validAlone s) (onSheet q (a .stream) && good x) (good (a .seen) && good (a .wanted)) x _)
-
--- ---- a store after its own read
-
--- what a read promises of its answer alone
-pub read-said : (s : Sheet) (rs : List Record) (stream : ℕ) (r : Seen) → read≡ s rs stream r → seenOf s stream (own rs stream) ≡ seenSaid r
-unfolding readOf
-read-said s rs stream r e = ap (λ (l : Left Record). l .said) (sym e)
-
--- one that gave the own record: the stream is on a valid sheet ..
-pub seen-fits : (s : Sheet) (q : Rules) (stream : ℕ) (x y : Record)
-    → q ≡ rulesOf s → seenOf s stream x ≡ gives y → (stream < 8) × (q .seats ≤ 8)
-seen-fits s q stream x y e p =
-    let right = seen-gives s stream x y p in
-    rw e (on-sheet-below s stream (right .valid) (right .on), seats-le-8 s (right .valid))
-
--- .. and the rest is settled
-pub store-settled : (s : Sheet) (a : Try) (rs : List Record) (x : Record)
-    → seenOf s (a .stream) (own rs (a .stream)) ≡ gives x → storeOf s a rs ≡ settledOf (rulesOf s) a x rs
-unfolding storeOf settledOf
-store-settled s a rs x e =
-    let right = seen-gives s (a .stream) (own rs (a .stream)) x e in
-    rw (reply-past s a (own rs (a .stream)), e, right .same)
-
--- one that was refused: so is the store, and the records are as they were
-pub store-refused : (s : Sheet) (a : Try) (rs : List Record) (number at : ℕ)
-    → seenOf s (a .stream) (own rs (a .stream)) ≡ refuses number at → storeOf s a rs ≡ leaving rs (refuses number at)
-unfolding storeOf stored
-store-refused s a rs number at e = rw (reply-past s a (own rs (a .stream)), e)
 
 -- ---- numbers that are lent
 

@@ -4,35 +4,61 @@ use mathlib.Core.Path.{_≡_, refl, sym, ap, _∙_, subst, fun-ext}
 use mathlib.Core.Logic.{⊎-elim}
 use mathlib.Core.Bool.{Bool, true, false, not, _&&_, _||_, and-true, or-false, or-comm, and-or-distrib-right}
 use mathlib.Core.List.{List, [], _∷_, _++_, append-nil, append-assoc}
-use Prim.Native.Nat.{ℕ, zero, suc, _^_, _<_}
-use native.Mathlib.Nat.{lt-of-lt-of-le, le-of-suc-le-suc, not-suc-le-zero, pow-le-pow-right}
+use Prim.Native.Nat.{ℕ, zero, suc, _/_, _%_, _^_, _<_}
+use native.Mathlib.Nat.{lt-of-lt-of-le, le-of-suc-le-suc, not-suc-le-zero, pow-succ', pow-le-pow-right, mod-one, mod-lt, mod-eq-of-lt}
 use native.Mathlib.Numerals.{add-one}
 use native.Mathlib.Omega.{arith}
 use lib.ListN.{length, drop, set, replicate, length-append, length-set, length-replicate}
 use lib.Seq.{drop-append-seam}
+use lib.Arith.{mod-mul}
+use lib.Pow.{pow-pos}
+use lib.Count.{ones, ones-cat}
 use lib.Dec.{eqb, eqb→eq, eqb-refl}
 use borrow.Author.Tests.{eqb-false}
-use Rattle.octets.specs.Choice.{some-of, keep, All}
+use Rattle.octets.specs.Choice.{pick, some-of, keep, All}
 use Rattle.octets.proofs.Choice.{T-true, decide, some-of-append}
-use Rattle.octets.proofs.Keep.{keep-snoc-true, keep-snoc-false}
+use Rattle.octets.proofs.Keep.{keep-append, keep-snoc-true, keep-snoc-false}
 use Rattle.sheet.specs.declared.Sheet.{Sheet}
 use Rattle.sheet.specs.Table.{mostSeats}
 use Rattle.sheet.specs.Value.{validAlone}
-use Rattle.reception.specs.declared.Record.{Record}
-use Rattle.reception.specs.declared.Event.{Event}
-use Rattle.reception.specs.Record.{rulesOf, onSheet, watches, free, count, legal, own, allFree}
-use Rattle.reception.specs.Answer.{Reply}
+use Rattle.streams.specs.declared.Record.{Record}
+use Rattle.streams.specs.declared.Event.{Event}
+use Rattle.streams.specs.Record.{rulesOf, onSheet, watches, free, count, legal, own, allFree}
+use Rattle.streams.specs.Answer.{Reply}
+use Rattle.streams.specs.Table.{Answered, grantsAt, undoesAt}
+use Rattle.streams.proofs.Laws.Bits.{watches-none}
+use Rattle.streams.proofs.Laws.Records.{legal-below}
+use Rattle.streams.proofs.Laws.Rules.{rule-legal, rule-bits}
 use Rattle.reception.specs.Steps.{Said, gives, refuses, Try, tryOf, seenOf, readOf, workOf, attemptOf, replyOf, stored, storeOf, counted, countOf}
-use Rattle.reception.specs.Table.{Answered}
 use Rattle.reception.specs.Schedule.{Step, reads, worksOut, stores, WorkedOut, State, after, ifTook, takenAt, start, run, taken}
-use Rattle.reception.specs.History.{ofStream, grantsAt, undoesAt, places, lasts, shown, shownCount}
+use Rattle.reception.specs.History.{ofStream, places, lasts, shown, shownCount}
 use Rattle.reception.specs.Claims.{CountFromHistory, CountTold}
-use Rattle.reception.proofs.Laws.Bits.{watches-none, ones-keep}
-use Rattle.reception.proofs.Laws.Records.{legal-below}
 use Rattle.reception.proofs.Laws.Steps.{seats-le-8, on-sheet-below, WorkRight, attempt-gives, reply-gives}
-use Rattle.reception.proofs.Laws.Rules.{rule-legal, rule-bits}
 use Rattle.reception.proofs.Laws.Stores.{own-set, own-set-other, starts-legal, legal-own, stays-legal}
 use Rattle.reception.proofs.Laws.Serial.{serial-order}
+
+-- ---- the number of ones
+
+-- a digit that is 1 is kept
+one-kept : (d n : ℕ) → d < 2 → length (pick (eqb d 1) (n ∷ []) []) ≡ ones d
+unfolding ones
+one-kept zero n h = refl
+one-kept (suc zero) n h = refl
+one-kept (suc (suc d)) n h = absurd (omega arith)
+
+-- the ones of the low n bits are the places of those that are set
+length-kept : (b n : ℕ) → length (keep (watches b) (places n)) ≡ ones (b % 2 ^ n)
+unfolding places ones watches
+length-kept b zero = rw mod-one
+length-kept b (suc n) =
+    let digit = b / 2 ^ n % 2 in
+    let low = mod-lt b (pow-pos n) in
+    rw (keep-append, length-append, length-kept b n, pow-succ', mod-mul b {m = 2} (omega arith) (pow-pos n), ones-cat n digit (b % 2 ^ n) low)
+    (omega (arith, one-kept digit n (omega arith)))
+
+-- the ones are the places of the bits that are set
+ones-keep : (n b : ℕ) → b < 2 ^ n → ones b ≡ length (keep (watches b) (places n))
+ones-keep n b h = rw (length-kept b n, mod-eq-of-lt h)
 
 -- ---- one event more
 

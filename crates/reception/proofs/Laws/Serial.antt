@@ -6,17 +6,17 @@ use Prim.Native.Nat.{ℕ}
 use lib.ListN.{set}
 use Rattle.octets.specs.Choice.{All}
 use Rattle.sheet.specs.declared.Sheet.{Sheet}
-use Rattle.reception.specs.declared.Record.{Record}
-use Rattle.reception.specs.declared.Event.{Event}
-use Rattle.reception.specs.declared.stream.Rules.{Rules}
-use Rattle.reception.specs.Record.{rulesOf, own}
-use Rattle.reception.specs.Answer.{Reply}
+use Rattle.streams.specs.declared.Record.{Record}
+use Rattle.streams.specs.declared.Event.{Event}
+use Rattle.streams.specs.declared.stream.Rules.{Rules}
+use Rattle.streams.specs.Record.{rulesOf, own}
+use Rattle.streams.specs.Answer.{Reply}
+use Rattle.streams.specs.Table.{Answered}
+use Rattle.streams.proofs.Laws.Rules.{granted-exactly, granted-not-ending}
 use Rattle.reception.specs.Steps.{Said, gives, refuses, Try, readOf, attemptOf, workOf, replyOf, stored, storeOf}
-use Rattle.reception.specs.Table.{Answered}
 use Rattle.reception.specs.Schedule.{Step, reads, worksOut, stores, WorkedOut, State, start, after, ifTook, takenAt, run, taken}
 use Rattle.reception.specs.Serial.{ruled, next, recordsInTurn, answersInTurn}
 use Rattle.reception.specs.Claims.{events, SerialOrder, NoAccident}
-use Rattle.reception.proofs.Laws.Rules.{granted-exactly, granted-not-ending}
 use Rattle.reception.proofs.Laws.Steps.{attempt-gives, reply-gives}
 
 -- ---- serial order

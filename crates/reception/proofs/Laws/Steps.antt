@@ -3,20 +3,19 @@ use mathlib.Core.Path.{_≡_}
 use mathlib.Core.Bool.{Bool, true, false, _&&_}
 use Prim.Native.Nat.{ℕ, _<_, _≤_}
 use native.Mathlib.Omega.{arith}
-use lib.Dec.{T, ltb→lt}
+use lib.Dec.{T}
 use Rattle.octets.proofs.Choice.{T-and-left, T-and-right}
 use Rattle.sheet.specs.declared.Sheet.{Sheet}
 use Rattle.sheet.specs.Table.{mostSeats}
 use Rattle.sheet.specs.Value.{validAlone}
 use Rattle.sheet.proofs.Laws.Values.{few-seats}
-use Rattle.reception.specs.declared.Record.{Record}
-use Rattle.reception.specs.declared.Event.{Event}
-use Rattle.reception.specs.declared.stream.Rules.{Rules}
-use Rattle.reception.specs.Record.{rulesOf, onSheet, sameRecord, legal}
-use Rattle.reception.specs.Answer.{Reply}
-use Rattle.reception.specs.Table.{senderOn}
+use Rattle.streams.specs.declared.Record.{Record}
+use Rattle.streams.specs.declared.Event.{Event}
+use Rattle.streams.specs.Record.{rulesOf, onSheet, sameRecord, legal}
+use Rattle.streams.specs.Answer.{Reply}
+use Rattle.streams.specs.Table.{senderOn}
+use Rattle.streams.proofs.Laws.Records.{on-below, same-equal}
 use Rattle.reception.specs.Steps.{Said, gives, check, Try, tryOf, seenOf, attemptOf, replyOf}
-use Rattle.reception.proofs.Laws.Records.{same-equal}
 
 -- ---- seats
 
@@ -25,11 +24,7 @@ pub seats-le-8 : (s : Sheet) → T (validAlone s) → rulesOf s .seats ≤ 8
 unfolding mostSeats
 seats-le-8 s v = few-seats s v
 
--- a seat among at most eight has a bit in the byte
-pub on-below : (q : Rules) (r : ℕ) → T (onSheet q r) → q .seats ≤ 8 → r < 8
-on-below q r t h = omega (arith, ltb→lt r (q .seats) t)
-
--- so has a seat on a valid sheet
+-- a seat on one has a bit in the byte
 pub on-sheet-below : (s : Sheet) (r : ℕ) → T (validAlone s) → T (onSheet (rulesOf s) r) → r < 8
 on-sheet-below s r v t = on-below (rulesOf s) r t (seats-le-8 s v)
 
@@ -101,3 +96,9 @@ reply-gives s a x reply p =
     let rest = check-gives right 9 last reply (sheet .1) in
     let fresh = check-gives (sameRecord x (a .seen)) 10 (gives (a .reply)) reply (rest .1) in
     search (T-and-left, T-and-right, same-equal, gives-same)
+
+-- its stream is one of eight
+pub reply-below : (s : Sheet) (a : Try) (x : Record) (reply : Reply) → replyOf s a x ≡ gives reply → a .stream < 8
+reply-below s a x reply p =
+    let right = reply-gives s a x reply p in
+    on-sheet-below s (a .stream) (right .valid) (right .on)

@@ -1,5 +1,5 @@
--- What the steps do to the eight records: reading and working out change nothing, the store rule, that every schedule keeps them legal, and
--- what an undisturbed event does. Assumes nothing.
+-- What the steps do to the eight records: reading and working out change nothing, what is worked out from a legal record is legal, the store
+-- rule, that every schedule keeps them legal, and what an undisturbed event does. Assumes nothing.
 use mathlib.Core.Path.{_≡_, refl}
 use mathlib.Core.Logic.{⊎-elim}
 use mathlib.Core.List.{List, [], _∷_}
@@ -13,16 +13,16 @@ use Rattle.octets.proofs.Choice.{T-true, decide, pick-same}
 use Rattle.sheet.specs.declared.Sheet.{Sheet}
 use Rattle.sheet.specs.Table.{mostSeats}
 use Rattle.sheet.specs.Value.{validAlone}
-use Rattle.reception.specs.declared.Record.{Record}
-use Rattle.reception.specs.Record.{rulesOf, onSheet, free, sameRecord, legalIn, legal, own}
-use Rattle.reception.specs.Answer.{Reply}
-use Rattle.reception.specs.Table.{senderOn}
+use Rattle.streams.specs.declared.Record.{Record}
+use Rattle.streams.specs.Record.{rulesOf, onSheet, free, sameRecord, legalIn, legal, own}
+use Rattle.streams.specs.Answer.{discarded, Reply}
+use Rattle.streams.specs.Table.{ruleFor, senderOn}
+use Rattle.streams.proofs.Laws.Records.{equal-same, other-not-same}
+use Rattle.streams.proofs.Laws.Rules.{rule-discards, rule-plain, rule-legal}
 use Rattle.reception.specs.Steps.{Said, gives, refuses, check, Try, tryOf, seenOf, readOf, attemptOf, workOf, replyOf, stored, storeOf}
 use Rattle.reception.specs.Schedule.{Step, reads, worksOut, stores, State, after, start, run}
-use Rattle.reception.specs.Claims.{Legal, StartsLegal, ReadRule, WorkRule, Storable, StoreRule, RefusedKeeps, StaysLegal, Undisturbed}
-use Rattle.reception.proofs.Laws.Records.{equal-same, other-not-same}
-use Rattle.reception.proofs.Laws.Steps.{on-sheet-below, reply-gives}
-use Rattle.reception.proofs.Laws.Rules.{rule-legal}
+use Rattle.reception.specs.Claims.{Legal, StartsLegal, ReadRule, WorkRule, WorksOutLegal, DiscardKeeps, Storable, StoreRule, RefusedKeeps, StaysLegal, Undisturbed}
+use Rattle.reception.proofs.Laws.Steps.{on-sheet-below, attempt-gives, reply-gives}
 
 -- ---- the records after one was set
 
@@ -65,6 +65,20 @@ read-rule s stream rs =
 pub work-rule : WorkRule
 unfolding workOf
 work-rule s x e rs = refl
+
+-- working out from a legal record gives a legal record
+pub works-out-legal : WorksOutLegal
+works-out-legal s x e a p =
+    let g = attempt-gives s x e a p in
+    rw (← g .same) (rule-legal (rulesOf s) (e .stream) x (e .what) (g .is-legal) (g .sender))
+
+-- a discarded event keeps the record, and has no message and no timer
+pub discard-keeps : DiscardKeeps
+discard-keeps s x e a p d =
+    let g = attempt-gives s x e a p in
+    let w : ruleFor (rulesOf s) (e .stream) x (e .what) .reply .done ≡ discarded = cc (g .same) in
+    let plain = rule-plain (rulesOf s) (e .stream) x (e .what) .0 w in
+    rw (← g .same) (record { same = rule-discards (rulesOf s) (e .stream) x (e .what) w; silent = plain .0; still = plain .1 })
 
 -- ---- the store rule
 

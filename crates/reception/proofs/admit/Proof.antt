@@ -7,8 +7,8 @@ use borrow.Author.Tests.{not-true, not-false}
 use Rattle.octets.proofs.Choice.{true-T}
 use Rattle.sheet.specs.Value.{sheetIn, validAlone}
 use Rattle.sheet.proofs.Laws.Values.{valid-counted}
-use Rattle.reception.specs.declared.stream.Rules.{Rules}
-use Rattle.reception.specs.Record.{rulesOf, onSheet}
+use Rattle.streams.specs.declared.stream.Rules.{Rules}
+use Rattle.streams.specs.Record.{rulesOf, onSheet}
 use Rattle.reception.specs.Inner.{admitted}
 use Rattle.reception.proofs.Laws.Checks.{rules-lent}
 use Rattle.reception.proofs.admit.Statement.{statement}

@@ -1,10 +1,13 @@
--- `reception::attempt_on` meets its contract: its tests are those of the definition, in their order, and the table's row is the attempt. Assumes nothing.
+-- `reception::attempt_on` meets its contract: its tests are those of the definition, in their order, and the table's row
+-- (`changes-by-table`) is the attempt. Assumes nothing.
 use mathlib.Core.Path.{_≡_, sym, _∙_}
 use borrow.Author.Needs.{needs}
 use borrow.Author.Tests.{not-true, not-false}
 use Rattle.octets.proofs.Choice.{true-T}
-use Rattle.reception.specs.Record.{legal}
-use Rattle.reception.specs.Table.{senderOn}
+use Rattle.sheet.specs.Table.{mostSeats}
+use Rattle.streams.specs.Record.{legal}
+use Rattle.streams.specs.Table.{senderOn}
+use Rattle.streams.proofs.Laws.Rules.{changes-by-table}
 use Rattle.reception.proofs.attempt_on.Statement.{statement}
 use Rattle.reception.proofs.attempt_on.Tie as tie
 
@@ -44,15 +47,17 @@ returns-2 c =
     rw (r .0, r .1, sent (test .before .before) ∙ not-false _ (test .before .if1 .left), judged test ∙ not-true _ (c .before .if2 .taken))
 
 change-of-requires : tie.Need-change-of-requires
-change-of-requires c κs =
-    let sending = c .before .before in
-    (true-T _ (sent (sending .before) ∙ not-false _ (sending .if1 .left)), search needs)
+change-of-requires c κs = search needs
 
 returns-3 : tie.Need-returns-3
+unfolding mostSeats
 returns-3 c =
     let test = c .before .before in
     let sending = test .before .before in
-    rw (sent (sending .before) ∙ not-false _ (sending .if1 .left), judged (test .before) ∙ not-false _ (test .if2 .left), sym (c .before .change-of .ensures))
+    let start = sending .before .before in
+    let on = sent (sending .before) ∙ not-false _ (sending .if1 .left) in
+    let row = c .before .change-of .ensures ∙ changes-by-table _ _ _ _ (true-T _ on) (start .pre) in
+    rw (on, judged (test .before) ∙ not-false _ (test .if2 .left), sym row)
 
 pub attempt-on-spec : {M : Type 1} → statement M
 attempt-on-spec =

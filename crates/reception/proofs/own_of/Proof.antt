@@ -1,38 +1,32 @@
--- `reception::own_of` meets its contract: the record is judged and handed out. Assumes nothing.
+-- `reception::own_of` meets its contract: there is no record past the eighth. Assumes nothing.
 use mathlib.Core.Path.{_≡_, sym, _∙_}
+use native.Mathlib.Omega.{arith}
+use lib.ListN.{length, List·getD-eq-default}
 use borrow.Author.Needs.{needs}
-use borrow.Author.Tests.{not-true, not-false}
-use Rattle.reception.specs.Record.{legal, own}
+use Rattle.streams.specs.Record.{free}
 use Rattle.reception.proofs.own_of.Statement.{statement}
 use Rattle.reception.proofs.own_of.Tie as tie
 
-mul-own : tie.Need-mul-own
-mul-own c = search needs
+free-requires : tie.Need-free-requires
+free-requires c κs = search needs
 
-array-copy-out-own : tie.Need-array-copy-out-own
-array-copy-out-own c = search needs
-
-is-legal-requires : tie.Need-is-legal-requires
-is-legal-requires c κs = search needs
-
--- whether the record is legal
-judged : (c : tie.After-is-legal)
-    → let a = c .before .before .args in
-    legal (a .rules) (a .stream) (own (a .t2) (a .stream)) ≡ c .is-legal .result
-judged c = sym (c .is-legal .ensures)
-
-refusal-requires : tie.Need-refusal-requires
-refusal-requires c κs = search needs
+-- an array of eight
+eight : (c : tie.Start) → length (c .args .t1) ≡ 8
+eight c = search needs
 
 returns : tie.Need-returns
 returns c =
-    let r = c .refusal .ensures in
-    rw (r .0, r .1, judged (c .before .before) ∙ not-true _ (c .before .if1 .taken))
+    let start = c .before .before in
+    c .free .ensures ∙ sym (List·getD-eq-default (start .args .t1) free (omega (arith, eight start)))
+
+mul-result : tie.Need-mul-result
+mul-result c = search needs
+
+array-copy-out-result : tie.Need-array-copy-out-result
+array-copy-out-result c = search needs
 
 returns-2 : tie.Need-returns-2
-returns-2 c = rw (judged (c .before) ∙ not-false _ (c .if1 .left))
+returns-2 c = search needs
 
 pub own-of-spec : {M : Type 1} → statement M
-own-of-spec =
-    tie.close
-    (tie.spec mul-own array-copy-out-own is-legal-requires refusal-requires returns returns-2)
+own-of-spec = tie.close (tie.spec free-requires returns mul-result array-copy-out-result returns-2)

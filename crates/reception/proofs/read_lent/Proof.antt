@@ -1,45 +1,18 @@
--- `reception::read_lent` meets its contract: past the checks of the sheet and the stream (`seen-past`) the own record is judged. Assumes nothing.
-use mathlib.Core.Path.{sym, ap, _∙_}
+-- `reception::read_lent` meets its contract: what is said of the stream's own record, and the eight are what they were. Assumes nothing.
 use borrow.Author.Needs.{needs}
-use Rattle.sheet.specs.Value.{sheetIn}
 use Rattle.reception.specs.Steps.{readOf}
-use Rattle.reception.specs.Inner.{admittedSaid}
-use Rattle.reception.proofs.Laws.Checks.{Admits, under-admits, seen-past}
 use Rattle.reception.proofs.read_lent.Statement.{statement}
 use Rattle.reception.proofs.read_lent.Tie as tie
 
-admit-requires : tie.Need-admit-requires
-admit-requires c κs = search needs
-
-enum-known-rules : tie.Need-enum-known-rules
-enum-known-rules c = search needs
-
--- where the stream is admitted, by which rules
-admits : (c : tie.After-known-told)
-    → let a = c .before .before .before .before .before .args in
-    Admits (sheetIn (a .numbers .now)) (a .stream) (c .before .rules .given .0 .0)
-admits c = under-admits _ _ _ _ (c .before .before .before .admit .ensures) (c .before .rules .given .1)
-
 own-of-requires : tie.Need-own-of-requires
-own-of-requires c κs = admits c .fits
+own-of-requires c κs = search needs
 
-enum-known-refusal : tie.Need-enum-known-refusal
-enum-known-refusal c = search needs
+seen-lent-requires : tie.Need-seen-lent-requires
+seen-lent-requires c κs = search needs
 
 returns : tie.Need-returns
 unfolding readOf
-returns c =
-    let known = c .before in
-    let admit = known .before .before .before in
-    rw (seen-past _ _ _, sym (admit .admit .ensures) ∙ ap admittedSaid (known .before .rules .given .1), admits known .same, c .own-of .ensures)
-
-returns-2 : tie.Need-returns-2
-unfolding readOf
-returns-2 c =
-    let admit = c .before .before .before in
-    rw (seen-past _ _ _, sym (admit .admit .ensures) ∙ ap admittedSaid (c .before .refusal .given .1))
+returns c = rw (c .seen-lent .ensures, c .before .own-of .ensures)
 
 pub read-lent-spec : {M : Type 1} → statement M
-read-lent-spec =
-    tie.close
-    (tie.spec admit-requires enum-known-rules own-of-requires enum-known-refusal returns returns-2)
+read-lent-spec = tie.close (tie.spec own-of-requires seen-lent-requires returns)

@@ -1,12 +1,10 @@
--- `reception::settle` meets its contract: its tests are those of the definition, in their order, and what it leaves is the records with
--- the one wanted set, or as they were. Assumes nothing.
+-- `reception::settle` meets its contract: its tests are those of the definition, in their order. Assumes nothing.
 use mathlib.Core.Path.{_≡_, sym, _∙_}
 use mathlib.Core.Bool.{true}
 use borrow.Author.Needs.{needs}
 use borrow.Author.Tests.{not-true, not-false}
-use Rattle.reception.specs.Record.{sameRecord, legal}
-use Rattle.reception.specs.Steps.{stored}
-use Rattle.reception.specs.Inner.{settled, settledOf}
+use Rattle.streams.specs.Record.{sameRecord, legal}
+use Rattle.reception.specs.Inner.{settled}
 use Rattle.reception.proofs.settle.Statement.{statement}
 use Rattle.reception.proofs.settle.Tie as tie
 
@@ -16,15 +14,12 @@ is-legal-requires c κs = search needs
 refusal-requires : tie.Need-refusal-requires
 refusal-requires c κs = search needs
 
-unchanged-requires : tie.Need-unchanged-requires
-unchanged-requires c κs = search needs
-
 returns : tie.Need-returns
-unfolding settledOf settled stored
+unfolding settled
 returns c =
-    let test = c .before .before in
-    let r = c .before .refusal .ensures in
-    c .unchanged .ensures ∙ rw (r .0, r .1, sym (test .before .is-legal .ensures) ∙ not-true _ (test .if1 .taken))
+    let test = c .before in
+    let r = c .refusal .ensures in
+    rw (r .0, r .1, sym (test .before .is-legal .ensures) ∙ not-true _ (test .if1 .taken))
 
 -- past the first test the record seen is legal
 seen-legal : (c : tie.Else1)
@@ -38,16 +33,12 @@ is-legal-requires-2 c κs = search needs
 refusal-requires-2 : tie.Need-refusal-requires-2
 refusal-requires-2 c κs = search needs
 
-unchanged-requires-2 : tie.Need-unchanged-requires-2
-unchanged-requires-2 c κs = search needs
-
 returns-2 : tie.Need-returns-2
-unfolding settledOf settled stored
+unfolding settled
 returns-2 c =
-    let test = c .before .before in
-    let r = c .before .refusal2 .ensures in
-    c .unchanged2 .ensures
-    ∙ rw (r .0, r .1, seen-legal (test .before .before), sym (test .before .is-legal2 .ensures) ∙ not-true _ (test .if2 .taken))
+    let test = c .before in
+    let r = c .refusal2 .ensures in
+    rw (r .0, r .1, seen-legal (test .before .before), sym (test .before .is-legal2 .ensures) ∙ not-true _ (test .if2 .taken))
 
 -- past the second so is the one wanted
 wanted-legal : (c : tie.Else2)
@@ -67,17 +58,13 @@ compared c = sym (c .is-same .ensures)
 refusal-requires-3 : tie.Need-refusal-requires-3
 refusal-requires-3 c κs = search needs
 
-unchanged-requires-3 : tie.Need-unchanged-requires-3
-unchanged-requires-3 c κs = search needs
-
 returns-3 : tie.Need-returns-3
-unfolding settledOf settled stored
+unfolding settled
 returns-3 c =
-    let test = c .before .before in
-    let r = c .before .refusal3 .ensures in
+    let test = c .before in
+    let r = c .refusal3 .ensures in
     let legals = test .before .before in
-    c .unchanged3 .ensures
-    ∙ rw (
+    rw (
       r .0,
       r .1,
       seen-legal (legals .before .before),
@@ -85,17 +72,8 @@ returns-3 c =
       compared (test .before) ∙ not-true _ (test .if3 .taken),
     )
 
-cast-after : tie.Need-cast-after
-cast-after c = search needs
-
-mul-after : tie.Need-mul-after
-mul-after c = search needs
-
-array-set-from-after : tie.Need-array-set-from-after
-array-set-from-after c = search needs
-
 returns-4 : tie.Need-returns-4
-unfolding settledOf settled stored
+unfolding settled
 returns-4 c =
     let legals = c .before .before in
     rw (seen-legal (legals .before .before), wanted-legal legals, compared (c .before) ∙ not-false _ (c .if3 .left))
@@ -106,17 +84,11 @@ settle-spec =
     (tie.spec
     is-legal-requires
     refusal-requires
-    unchanged-requires
     returns
     is-legal-requires-2
     refusal-requires-2
-    unchanged-requires-2
     returns-2
     is-same-requires
     refusal-requires-3
-    unchanged-requires-3
     returns-3
-    cast-after
-    mul-after
-    array-set-from-after
     returns-4)

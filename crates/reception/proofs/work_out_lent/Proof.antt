@@ -17,11 +17,11 @@ enum-known-rules c = search needs
 -- where the stream is admitted, by which rules
 admits : (c : tie.After-known-told)
     → let a = c .before .before .before .before .before .args in
-    Admits (sheetIn (a .numbers .now)) (a .event .stream) (c .before .rules .given .0 .0)
+    Admits (sheetIn (a .numbers .now)) (c .before .rules .given .0 .0)
 admits c = under-admits _ _ _ _ (c .before .before .before .admit .ensures) (c .before .rules .given .1)
 
 attempt-on-requires : tie.Need-attempt-on-requires
-attempt-on-requires c κs = admits c .fits
+attempt-on-requires c κs = admits c .few
 
 enum-known-refusal : tie.Need-enum-known-refusal
 enum-known-refusal c = search needs

@@ -8,13 +8,12 @@ use native.Mathlib.Nat.{zero-lt-suc}
 use native.Mathlib.Omega.{arith}
 use lib.ListN.{length, getD, take, drop, take-append-drop, length-append, length-map, List·getD-append, List·getD-eq-default}
 use lib.Seq.{drop-cons}
-use lib.Dec.{T, eqb→eq}
+use lib.Dec.{T, leb, leb→le, eqb→eq}
 use borrow.Author.Tests.{eqb-false, eq-eqb, ne-eqb}
 use Rattle.octets.specs.Choice.{pick, same, every}
 use Rattle.octets.proofs.Choice.{true-T, T-and, T-and-left, T-and-right, le-or-lt}
 use Rattle.sheet.specs.Table.{Row, table, numberLines, seatsLine, rowAt}
-use Rattle.sheet.specs.Line.{Entry, visible}
-use Rattle.sheet.specs.Judge.{numbersIn, namesIn, goodNumber, goodName, userId, good, inTurn, whole}
+use Rattle.sheet.specs.Judge.{Entry, numbersIn, namesIn, goodNumber, visible, longestName, userId, goodName, good, inTurn, whole}
 
 -- ---- inTurn: each good behind those before it
 
@@ -129,6 +128,13 @@ good-number b e t = T-and-left (goodNumber (numbersIn b) (e .number)) (goodName 
 pub good-name : (b : List Entry) (e : Entry) → T (good b e) → T (goodName (namesIn b) (e .name))
 unfolding good
 good-name b e t = T-and-right (goodNumber (numbersIn b) (e .number)) (goodName (namesIn b) (e .name)) t
+
+-- a User ID fits its row
+pub userId-short : (name : List ℕ) → T (userId name) → length name ≤ longestName
+unfolding userId
+userId-short name t =
+    leb→le (length name) longestName
+    (T-and-left (leb (length name) longestName) (every visible name) (T-and-right (leb 1 (length name)) (leb (length name) longestName && every visible name) t))
 
 -- a name that a line of the row can show: visible octets on a seat's line, else nothing
 abbrev pub shaped : Row → List ℕ → Bool

@@ -12,8 +12,7 @@ use lib.Dec.{T, leb, eqb, leb→le, le→leb, eqb→eq, eqb-refl}
 use Rattle.octets.specs.Choice.{pick, same, some-of}
 use Rattle.octets.proofs.Choice.{below, false-T, decide, le-or-lt, T-and, T-and-left, T-and-right, T-or-left, T-or-right, T-or-cases, pick-cases, same-refl, same-eq}
 use Rattle.sheet.specs.Table.{table, seatRow, numberLines, seatsLine, mostSeats, rowAt}
-use Rattle.sheet.specs.Line.{Entry, visible}
-use Rattle.sheet.specs.Judge.{numbersIn, namesIn, taken, goodNumber, goodName, userId, good, inTurn, whole, valid}
+use Rattle.sheet.specs.Judge.{Entry, numbersIn, namesIn, taken, goodNumber, visible, userId, goodName, good, inTurn, whole, valid}
 use Rattle.sheet.proofs.Laws.Rules.{rowAt-seat}
 use Rattle.sheet.proofs.Laws.Entries.{inTurn-at, inTurn-snoc, good-numbers, length-numbersIn, length-namesIn, numbersIn-append, seatsIn, Open, eq-whole}
 

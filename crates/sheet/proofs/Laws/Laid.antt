@@ -15,8 +15,7 @@ use Rattle.octets.proofs.Choice.{every-weaker, T-and, T-and-left, T-and-right, 
 use Rattle.octets.proofs.Buffer.{take-padded}
 use Rattle.sheet.specs.declared.Sheet.{Sheet}
 use Rattle.sheet.specs.Table.{table, seatRow, numberLines, seatsLine, mostSeats}
-use Rattle.sheet.specs.Line.{Entry, longestName, visible}
-use Rattle.sheet.specs.Judge.{numbersIn, namesIn, good, inTurn, whole, valid}
+use Rattle.sheet.specs.Judge.{Entry, numbersIn, namesIn, visible, longestName, good, inTurn, whole, valid}
 use Rattle.sheet.specs.Value.{sheetBy, sheetFrom, sheetOf, rowOf, usersOf, numbersOf, nameOf, alone, seatEntries, entriesOf, sameRows, validWith}
 use Rattle.sheet.proofs.Laws.Rules.{row-unnamed, rowAt-seat}
 use Rattle.sheet.proofs.Laws.Entries.{good-shaped, inTurn-drop, length-numbersIn, seatsIn, whole-eq}
@@ -47,7 +46,8 @@ alone-take (suc m) b (e ∷ es) t h =
 
 -- ---- the seats' lines
 
-not-zero : (c : ℕ) → T (visible c) → T (not (eqb c 0))
+-- a visible octet is not zero
+pub not-zero : (c : ℕ) → T (visible c) → T (not (eqb c 0))
 not-zero c t =
     let l : 33 ≤ c = leb→le 33 c (T-and-left (leb 33 c) (leb c 126) t) in
     rw (ne-eqb c 0 (λ q. omega arith)) tt

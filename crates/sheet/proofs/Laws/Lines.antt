@@ -1,160 +1,180 @@
--- Laws on the text of a line: a good entry's line is one line, and the entry is read off it again. Assumes nothing.
-use mathlib.Core.Path.{_≡_, refl, sym, ap, ap₂, _∙_}
-use mathlib.Core.Bool.{Bool, true, false}
-use mathlib.Core.List.{List, [], _∷_, _++_, append-nil, append-assoc}
-use Prim.Native.Nat.{ℕ, suc, _+_, _≤_, _<_}
-use native.Mathlib.Nat.{add-zero, zero-add, suc-add, add-suc}
+-- Laws of the numbers that a call is lent, judged in turn: each line within its bounds, and apart from those of its family before it.
+-- Assumes nothing.
+use mathlib.Core.Path.{_≡_, sym, ap, _∙_}
+use mathlib.Core.Logic.{_⊎_, inl, inr, ⊎-elim}
+use mathlib.Core.Bool.{Bool, _&&_}
+use mathlib.Core.List.{List, []}
+use Prim.Native.Nat.{ℕ, _+_, _≤_, _<_, zero-le}
 use native.Mathlib.Omega.{arith}
-use lib.ListN.{length, drop, length-append}
-use lib.Seq.{drop-append-seam, drop-append-add, drop-drop}
-use lib.Dec.{T, T-not, leb, eqb, leb→le}
-use borrow.Author.Tests.{ne-eqb}
-use Rattle.octets.specs.Choice.{pick, same, every, front}
-use Rattle.octets.specs.Text.{decimal, valueOf, digit}
-use Rattle.octets.proofs.Choice.{every-weaker, T-false, T-and, T-and-left, T-and-right, same-eq, front-append, every-append}
-use Rattle.octets.proofs.Text.{value-decimal, digits-decimal, digit-low, length-decimal-pos}
-use Rattle.sheet.specs.Table.{Row, rowAt}
-use Rattle.sheet.specs.Line.{Entry, lf, comma, visible, tailOf, lineOf, digitsAfter, nameAfter, entryIn, textFrom, textOf}
-use Rattle.sheet.specs.Reading.{firstLine, lines}
-use Rattle.sheet.proofs.Laws.Rules.{plainOctet, key-plain}
-use Rattle.sheet.proofs.Laws.Entries.{shaped}
+use lib.ListN.{length, getD, take, length-take}
+use lib.Seq.{length-take-le, take-take, getD-take}
+use lib.Dec.{T, leb, ltb, eqb, eqb→eq, le→leb, leb→le, lit<}
+use borrow.Author.Tests.{le-leb, lt-leb, le-ltb, lt-ltb}
+use Rattle.octets.specs.Choice.{pick}
+use Rattle.octets.specs.Buffer.{zerosFrom}
+use Rattle.octets.proofs.Choice.{T-and, T-and-left, T-and-right, le-or-lt, allBelow, below}
+use Rattle.octets.proofs.Buffer.{zerosFrom-getD, getD-zerosFrom}
+use Rattle.sheet.specs.Table.{Row, table, seatRow, numberLines, seatsLine, mostSeats, rowAt}
+use Rattle.sheet.specs.Judge.{goodNumber, inTurn}
+use Rattle.sheet.specs.Value.{sheetFrom, sheetIn, validAlone}
+use Rattle.sheet.specs.Inner.{NoneBefore, within, apart, cap}
+use Rattle.sheet.proofs.Laws.Rules.{rowAt-seat, other, none-before}
+use Rattle.sheet.proofs.Laws.Entries.{inTurn-at, at-inTurn}
+use Rattle.sheet.proofs.Laws.Numbers.{taken-from, taken-end, goodNumber-by}
+use Rattle.sheet.proofs.Laws.Values.{linesGood, sheetIn-counted, numbers-sheetFrom, numbers-few, numbers-judged}
 
--- ---- the entry is read off its line
+-- ---- which lines have one of their family before them
 
--- what follows a number begins with an octet that is no digit
-pub record Stops (s : List ℕ) : Type 0 where
-  pub stop : ℕ
-  pub rest : List ℕ
-  pub is : s ≡ stop ∷ rest
-  pub no-digit : digit stop ≡ false
+-- the first line of MCV2's five, and the line behind them
+abbrev pub five : ℕ
+five = 4
 
-stops-by : (b : Bool) (name : List ℕ) → Stops (pick b (comma ∷ name ++ (lf ∷ [])) (lf ∷ []))
-stops-by true name = record { stop = comma; rest = name ++ (lf ∷ []); is = refl; no-digit = refl }
-stops-by false name = record { stop = lf; rest = []; is = refl; no-digit = refl }
+abbrev pub behindFive : ℕ
+behindFive = 9
 
--- so it is behind every number
-pub tail-stops : (r : Row) (name : List ℕ) → Stops (tailOf r name)
-unfolding tailOf
-tail-stops r name = stops-by (r .named) name
+-- one of the five, of one family, or the first line of its own
+placed : ℕ → Bool
+placed k = pick (leb five k && ltb k behindFive) (eqb (rowAt k .family) (rowAt five .family)) (allBelow k (other (rowAt k .family)))
 
--- a line and what follows it, part by part
-line-parts : (r : Row) (e : Entry) (u : List ℕ) → lineOf r e ++ u ≡ r .key ++ (decimal (e .number) ++ (tailOf r (e .name) ++ u))
-unfolding lineOf
-line-parts r e u = simp append-assoc
+placed-at : (k : ℕ) → k < numberLines → T (placed k)
+unfolding placed other rowAt numberLines table
+placed-at k h = below numberLines placed tt k h
 
--- the digits on an entry's line are its number's
-pub digits-line : (r : Row) (e : Entry) (u : List ℕ) → digitsAfter r (lineOf r e ++ u) ≡ decimal (e .number)
-unfolding digitsAfter
-digits-line r e u =
-    let s = tail-stops r (e .name) in
-    rw (line-parts r e u, drop-append-seam (r .key) (decimal (e .number) ++ (tailOf r (e .name) ++ u)), s .is)
-    (front-append digit (decimal (e .number)) (s .rest ++ u) (s .stop) (digits-decimal (e .number)) (s .no-digit))
+-- the five are one family
+five-family : (k : ℕ) → k < behindFive → five ≤ k → rowAt k .family ≡ rowAt five .family
+unfolding placed numberLines table
+five-family k h l =
+    eqb→eq (rowAt k .family) (rowAt five .family) (rw (le-leb five k l, lt-ltb k behindFive h) at (placed-at k (omega arith)))
 
--- behind the digits and one octet more
-after-digits : (r : Row) (e : Entry) (u : List ℕ)
-    → drop (length (r .key) + length (decimal (e .number)) + 1) (lineOf r e ++ u) ≡ drop 1 (tailOf r (e .name) ++ u)
-after-digits r e u =
-    rw (line-parts r e u, ← (drop-drop 1 (length (r .key) + length (decimal (e .number))) (r .key ++ (decimal (e .number) ++ (tailOf r (e .name) ++ u)))), drop-append-add (r .key) (decimal (e .number) ++ (tailOf r (e .name) ++ u)) (length (decimal (e .number))), drop-append-seam (decimal (e .number)) (tailOf r (e .name) ++ u))
+-- a line before or behind them is the first of its own
+lone-family : (k : ℕ) → k < numberLines → (k < five) ⊎ (behindFive ≤ k) → NoneBefore k (rowAt k .family)
+unfolding placed
+lone-family k h w =
+    let p = placed-at k h in
+    none-before k (rowAt k .family)
+    (⊎-elim (λ l. rw (lt-leb five k l) at p) (λ l. let m : five ≤ k = omega arith in rw (le-leb five k m, le-ltb k behindFive l) at p) w)
 
-name-by : (b : Bool) (name u : List ℕ) → T (pick b (every visible name) (same name []))
-    → pick b (front visible (drop 1 (pick b (comma ∷ name ++ (lf ∷ [])) (lf ∷ []) ++ u))) [] ≡ name
-name-by true name u t = rw (append-assoc name (lf ∷ []) u) (front-append visible name u lf t refl)
-name-by false name u t = sym (same-eq name [] t)
+-- the seats are one family
+seat-family : (k : ℕ) → numberLines ≤ k → rowAt k .family ≡ rowAt numberLines .family
+seat-family k h = ap (λ (r : Row). r .family) (rowAt-seat k h ∙ sym (rowAt-seat numberLines (omega arith)))
 
--- the entry is read off its line, whatever follows
-pub entry-line : (r : Row) (e : Entry) (u : List ℕ) → T (shaped r (e .name)) → entryIn r (lineOf r e ++ u) ≡ e
-unfolding entryIn nameAfter tailOf
-entry-line r e u t =
-    let n : valueOf (digitsAfter r (lineOf r e ++ u)) ≡ e .number = rw (digits-line r e u) (value-decimal (e .number)) in
-    let m : pick (r .named) (front visible (drop (length (r .key) + length (digitsAfter r (lineOf r e ++ u)) + 1) (lineOf r e ++ u))) [] ≡ e .name =
-    rw (digits-line r e u, after-digits r e u) (name-by (r .named) (e .name) u t) in
-    λ i. record { number = n i; name = m i }
+-- ---- one line
 
--- ---- a line's text is one line
+module _ (family lines : ℕ) (ns : List ℕ) (k : ℕ) where
+  -- on the sheet, the first of its family
+  apart-lone : k < lines → NoneBefore k family → T (apart family lines ns k)
+  unfolding apart
+  apart-lone h none =
+      let n = getD ns k 0 in
+      rw (lt-leb lines k h, taken-from family n (take k ns) k none, taken-end family n (take k ns) k (rw length-take (omega arith))) tt
 
-above-lf : (c : ℕ) → lf < c → T (plainOctet c)
-above-lf c h = rw (ne-eqb c lf (λ q. omega arith)) tt
+  -- behind the sheet's lines
+  apart-unused : lines ≤ k → apart family lines ns k ≡ eqb (getD ns k 0) 0
+  unfolding apart
+  apart-unused h = rw (le-leb lines k h)
 
-digits-plain : (cs : List ℕ) → T (every digit cs) → T (every plainOctet cs)
-digits-plain cs t = every-weaker digit plainOctet (λ c d. above-lf c (let l : 48 ≤ c = digit-low c d in omega arith)) cs t
+-- a line on the sheet is good just if it is within its bounds and apart
+goodNumber-apart : (lines : ℕ) (ns : List ℕ) (k : ℕ) → k < lines → k < length ns
+    → goodNumber (take k ns) (getD ns k 0) ≡ (within k (getD ns k 0) && apart (rowAt k .family) lines ns k)
+unfolding apart
+goodNumber-apart lines ns k h l =
+    let e : length (take k ns) ≡ k = length-take-le k ns (omega arith) in
+    rw (lt-leb lines k h) (rw e at (goodNumber-by (take k ns) (getD ns k 0)))
 
-visible-plain : (cs : List ℕ) → T (every visible cs) → T (every plainOctet cs)
-visible-plain cs t =
-    every-weaker visible plainOctet (λ c d. above-lf c (let l : 33 ≤ c = leb→le 33 c (T-and-left (leb 33 c) (leb c 126) d) in omega arith)) cs t
+-- ---- all lines, by what can be wrong with them
 
--- what stands before a line's LF
-abbrev body : Row → Entry → List ℕ
-body r e = r .key ++ (decimal (e .number) ++ pick (r .named) (comma ∷ e .name) [])
+-- each line with a number alone is within its bounds; the five are apart, and so are the seats' SSRCs, with zeros behind them
+pub record Right (ns : List ℕ) (lines : ℕ) : Type 0 where
+  pub bounds : (k : ℕ) → k < numberLines → T (within k (getD ns k 0))
+  pub apart-five : (k : ℕ) → k < behindFive → five ≤ k → T (apart (rowAt five .family) lines ns k)
+  pub apart-seats : (k : ℕ) → k < length ns → numberLines ≤ k → T (apart (rowAt numberLines .family) lines ns k)
 
-tail-body : (b : Bool) (name : List ℕ) → pick b (comma ∷ name ++ (lf ∷ [])) (lf ∷ []) ≡ pick b (comma ∷ name) [] ++ (lf ∷ [])
-tail-body true name = refl
-tail-body false name = refl
+module _ (ns : List ℕ) (lines : ℕ) (all : numberLines ≤ lines) (on : lines ≤ length ns) where
+  module _ (t : T (linesGood ns lines)) where
+    -- a line on the sheet is within its bounds and apart
+    line-right : (k : ℕ) → k < lines → T (within k (getD ns k 0) && apart (rowAt k .family) lines ns k)
+    line-right k h =
+        let l : length (take lines ns) ≡ lines = length-take-le lines ns on in
+        let g = inTurn-at goodNumber (take lines ns) k 0 (T-and-left (inTurn goodNumber [] (take lines ns)) _ t) (omega arith) in
+        rw (take-take k lines ns (omega arith), getD-take lines ns k 0 h, goodNumber-apart lines ns k h (omega arith)) at g
 
-line-body : (r : Row) (e : Entry) → lineOf r e ≡ body r e ++ (lf ∷ [])
-unfolding lineOf tailOf
-line-body r e = rw (tail-body (r .named) (e .name)) (simp append-assoc)
+    -- every line is apart
+    line-apart : (k : ℕ) → T (apart (rowAt k .family) lines ns k)
+    line-apart k =
+        ⊎-elim
+        (λ h. rw (apart-unused (rowAt k .family) lines ns k h, zerosFrom-getD ns lines k (T-and-right (inTurn goodNumber [] (take lines ns)) _ t) h) tt)
+        (λ h. T-and-right (within k (getD ns k 0)) _ (line-right k h))
+        (le-or-lt lines k)
 
-name-plain : (b : Bool) (name : List ℕ) → T (pick b (every visible name) (same name [])) → T (every plainOctet (pick b (comma ∷ name) []))
-name-plain true name t = visible-plain name t
-name-plain false name t = tt
+    -- good in turn, so right
+    good-right : Right ns lines
+    good-right =
+        record {
+          bounds = λ k h. T-and-left (within k (getD ns k 0)) _ (line-right k (omega arith));
+          apart-five = λ k h l. rw (← five-family k h l) (line-apart k);
+          apart-seats = λ k h l. rw (seat-family k l) at (line-apart k);
+        }
 
-body-plain : (r : Row) (e : Entry) → T (every plainOctet (r .key)) → T (shaped r (e .name)) → T (every plainOctet (body r e))
-body-plain r e k t =
-    rw (every-append plainOctet (r .key) (decimal (e .number) ++ pick (r .named) (comma ∷ e .name) []), every-append plainOctet (decimal (e .number)) (pick (r .named) (comma ∷ e .name) []))
-    (T-and (every plainOctet (r .key)) _ k
-    (T-and (every plainOctet (decimal (e .number))) _ (digits-plain (decimal (e .number)) (digits-decimal (e .number))) (name-plain (r .named) (e .name) t)))
+  module _ (small : (k : ℕ) → getD ns k 0 < cap) (r : Right ns lines) where
+    -- every line is within its bounds: a seat's has any number
+    right-within : (k : ℕ) → T (within k (getD ns k 0))
+    unfolding seatRow
+    right-within k =
+        let n = getD ns k 0 in
+        ⊎-elim
+        (λ h. rw (rowAt-seat k h) (T-and (leb 0 n) (leb n 4294967295) (le→leb 0 n zero-le) (le→leb n 4294967295 (omega (arith, small k)))))
+        (r .bounds k)
+        (le-or-lt numberLines k)
 
-firstLine-plain : (cs u : List ℕ) → T (every plainOctet cs) → firstLine (cs ++ (lf ∷ u)) ≡ cs ++ (lf ∷ [])
-unfolding firstLine
-firstLine-plain [] u t = refl
-firstLine-plain (c ∷ cs) u t =
-    let e : eqb c lf ≡ false = T-false (eqb c lf) (T-not (eqb c lf) (T-and-left (plainOctet c) (every plainOctet cs) t)) in
-    rw e (ap (λ (l : List ℕ). c ∷ l) (firstLine-plain cs u (T-and-right (plainOctet c) (every plainOctet cs) t)))
+    -- every line on the sheet is apart: the others of the lines with a number alone have none of their family before them
+    right-apart : (k : ℕ) → k < lines → T (apart (rowAt k .family) lines ns k)
+    right-apart k h =
+        ⊎-elim
+        (λ l. rw (seat-family k l) (r .apart-seats k (omega arith) l))
+        (λ l. ⊎-elim
+        (λ m. ⊎-elim (λ n. lone l (inr n)) (λ n. rw (five-family k n m) (r .apart-five k n m)) (le-or-lt behindFive k))
+        (λ m. lone l (inl m))
+        (le-or-lt five k))
+        (le-or-lt numberLines k)
+      where
+        lone : k < numberLines → (k < five) ⊎ (behindFive ≤ k) → T (apart (rowAt k .family) lines ns k)
+        lone l w = apart-lone (rowAt k .family) lines ns k h (lone-family k l w)
 
--- the first line of a text that begins with a line
-pub firstLine-line : (k : ℕ) (e : Entry) (u : List ℕ) → T (shaped (rowAt k) (e .name)) → firstLine (lineOf (rowAt k) e ++ u) ≡ lineOf (rowAt k) e
-firstLine-line k e u t =
-    rw (line-body (rowAt k) e, append-assoc (body (rowAt k) e) (lf ∷ []) u)
-    (firstLine-plain (body (rowAt k) e) u (body-plain (rowAt k) e (key-plain k) t))
+    -- right, so good in turn
+    right-good : T (linesGood ns lines)
+    right-good =
+        T-and (inTurn goodNumber [] (take lines ns)) (zerosFrom ns lines)
+        (at-inTurn goodNumber 0 [] (take lines ns)
+        (λ k h.
+        let l : k < lines = rw (length-take-le lines ns on) at h in
+        rw (take-take k lines ns (omega arith), getD-take lines ns k 0 l, goodNumber-apart lines ns k l (omega arith))
+        (T-and (within k (getD ns k 0)) _ (right-within k) (right-apart k l))))
+        (getD-zerosFrom ns lines
+        (λ i l h. eqb→eq (getD ns i 0) 0 (rw (apart-unused (rowAt numberLines .family) lines ns i l) at (r .apart-seats i h (omega arith)))))
 
-split-by : (b : Bool) (c : ℕ) (cs l : List ℕ) → cs ≡ l ++ drop (length l) cs
-    → c ∷ cs ≡ pick b (c ∷ []) (c ∷ l) ++ drop (length (pick b (c ∷ []) (c ∷ l))) (c ∷ cs)
-split-by true c cs l e = refl
-split-by false c cs l e = ap (λ (m : List ℕ). c ∷ m) e
+-- ---- the struct with these numbers is a sheet's exactly if its lines are right
 
--- a text is its first line and the rest
-pub firstLine-split : (s : List ℕ) → s ≡ firstLine s ++ drop (length (firstLine s)) s
-unfolding firstLine
-firstLine-split [] = refl
-firstLine-split (c ∷ cs) = split-by (eqb c lf) c cs (firstLine cs) (firstLine-split cs)
+-- so many lines a sheet with these numbers has
+abbrev pub linesIn : List ℕ → ℕ
+linesIn ns = numberLines + getD ns seatsLine 0
 
--- the lines of a text that begins with a line
-pub lines-line : (j k : ℕ) (e : Entry) (u : List ℕ) → T (shaped (rowAt k) (e .name))
-    → lines (suc j) (lineOf (rowAt k) e ++ u) ≡ lineOf (rowAt k) e ∷ lines j u
-unfolding lines
-lines-line j k e u t = rw (firstLine-line k e u t, drop-append-seam (lineOf (rowAt k) e) u)
+module _ (ns : List ℕ) (long : length ns ≡ 19) where
+  -- few seats: it is judged in turn
+  judged : getD ns seatsLine 0 ≤ mostSeats → validAlone (sheetIn ns) ≡ linesGood ns (linesIn ns)
+  unfolding numberLines table mostSeats
+  judged few = ap validAlone (sheetIn-counted ns long) ∙ numbers-judged (sheetFrom ns) ns (numbers-sheetFrom ns long) long few
 
--- a line is not empty
-pub line-pos : (r : Row) (e : Entry) → 1 ≤ length (lineOf r e)
-unfolding lineOf
-line-pos r e =
-    let p : 1 ≤ length (decimal (e .number)) = length-decimal-pos (e .number) in
-    simp length-append (omega arith)
+  -- a sheet's lines are right
+  pub valid-right : T (validAlone (sheetIn ns)) → Right ns (linesIn ns)
+  unfolding numberLines table mostSeats
+  valid-right v =
+      let few : getD ns seatsLine 0 ≤ 8 = numbers-few (sheetFrom ns) ns (numbers-sheetFrom ns long) long (rw (sheetIn-counted ns long) at v) in
+      good-right ns (linesIn ns) (omega arith) (omega arith) (rw (judged few) at v)
 
--- ---- the text of several lines
-
--- the text of two lists of entries
-pub textFrom-append : (k : ℕ) (xs ys : List Entry) → textFrom k (xs ++ ys) ≡ textFrom k xs ++ textFrom (k + length xs) ys
-unfolding textFrom
-textFrom-append k [] ys = rw (add-zero k)
-textFrom-append k (x ∷ xs) ys =
-    rw (textFrom-append (suc k) xs ys, suc-add k (length xs), add-suc k (length xs)) (sym (append-assoc (lineOf (rowAt k) x) (textFrom (suc k) xs) (textFrom (suc (k + length xs)) ys)))
-
--- one line more is as much longer
-pub length-textOf-snoc : (b : List Entry) (e : Entry) → length (textOf (b ++ (e ∷ []))) ≡ length (textOf b) + length (lineOf (rowAt (length b)) e)
-unfolding textOf textFrom
-length-textOf-snoc b e =
-    ap length (textFrom-append 0 b (e ∷ []))
-    ∙ length-append (textFrom 0 b) (lineOf (rowAt (0 + length b)) e ++ [])
-    ∙ ap₂ (λ (k : ℕ) (x : List ℕ). length (textFrom 0 b) + length (lineOf (rowAt k) e ++ x)) (zero-add (length b)) refl
-    ∙ ap (λ (x : List ℕ). length (textFrom 0 b) + length x) (append-nil (lineOf (rowAt (length b)) e))
+  -- right lines are a sheet's
+  pub right-valid : ((k : ℕ) → getD ns k 0 < cap) → Right ns (linesIn ns) → T (validAlone (sheetIn ns))
+  unfolding numberLines seatsLine table mostSeats rowAt
+  right-valid small r =
+      let n = getD ns seatsLine 0 in
+      let few : n ≤ 8 = leb→le n 8 (T-and-right (leb 1 n) (leb n 8) (r .bounds seatsLine (lit< tt))) in
+      rw (judged few) (right-good ns (linesIn ns) (omega arith) (omega arith) small r)

@@ -8,11 +8,9 @@ use lib.ListN.{length, take}
 use Rattle.octets.specs.Choice.{pick, same, some-of, first-place}
 use Rattle.octets.proofs.Choice.{some-of-append, some-of-map}
 use Rattle.sheet.specs.Table.{seatRow, numberLines}
-use Rattle.sheet.specs.Line.{Entry}
-use Rattle.sheet.specs.Judge.{namesIn, goodName, userId}
+use Rattle.sheet.specs.Judge.{Entry, namesIn, userId, goodName}
 use Rattle.sheet.specs.Value.{nameOf, alone}
-use Rattle.sheet.specs.Find.{seatOfUser}
-use Rattle.sheet.specs.Inner.{isNone, newName}
+use Rattle.sheet.specs.Find.{seatOfUser, isNone, newName}
 use Rattle.sheet.proofs.Laws.Rules.{rowAt-seat, row-unnamed}
 use Rattle.sheet.proofs.Laws.Entries.{length-namesIn}
 

@@ -2,19 +2,19 @@
 -- Assumes nothing.
 use mathlib.Core.Path.{_≡_, refl, sym, _∙_}
 use mathlib.Core.Logic.{⊎-elim}
-use mathlib.Core.Bool.{true, false, not, _&&_, and-false}
+use mathlib.Core.Bool.{true, false, not, _&&_, and-assoc, and-false}
 use mathlib.Core.List.{List}
 use Prim.Native.Nat.{ℕ, zero, suc, _+_, _≤_, _<_}
 use native.Mathlib.Numerals.{add-one}
 use native.Mathlib.Omega.{arith}
 use lib.ListN.{length, getD, drop, drop-of-length-le}
 use lib.Seq.{drop-cons}
-use lib.Dec.{eqb, eqb→eq}
-use borrow.Author.Tests.{eq-eqb, eqb-false, le-leb, lt-leb}
+use lib.Dec.{leb, eqb, eqb→eq}
+use borrow.Author.Tests.{eq-eqb, eqb-false, lt-leb}
 use Rattle.octets.proofs.Choice.{le-or-lt, T-false, T-and-left, T-and-right}
 use Rattle.sheet.specs.Table.{Row, rowAt}
 use Rattle.sheet.specs.Judge.{taken, goodNumber}
-use Rattle.sheet.specs.Inner.{NoneBefore}
+use Rattle.sheet.specs.Inner.{NoneBefore, within}
 
 -- ---- the numbers of a family, line by line
 
@@ -53,18 +53,13 @@ taken-from family n ns (suc j) h =
 
 -- ---- a number against its line's bounds and the lines before
 
-module _ (before : List ℕ) (n : ℕ) (r : Row) (e : rowAt (length before) ≡ r) where
-  -- below the least
-  pub goodNumber-low : n < r .least → goodNumber before n ≡ false
-  unfolding goodNumber
-  goodNumber-low h = rw (e, lt-leb (r .least) n h)
+-- within the bounds, and not taken
+pub goodNumber-by : (before : List ℕ) (n : ℕ)
+    → goodNumber before n ≡ (within (length before) n && not (taken (rowAt (length before) .family) n 0 before))
+unfolding goodNumber
+goodNumber-by before n = let r = rowAt (length before) in sym (and-assoc (leb (r .least) n) (leb n (r .greatest)) _)
 
-  -- above the greatest
-  pub goodNumber-high : r .greatest < n → goodNumber before n ≡ false
-  unfolding goodNumber
-  goodNumber-high h = rw (e, lt-leb n (r .greatest) h, and-false)
-
-  -- within the bounds: good just if it is not taken
-  pub goodNumber-within : r .least ≤ n → n ≤ r .greatest → goodNumber before n ≡ not (taken (r .family) n 0 before)
-  unfolding goodNumber
-  goodNumber-within h l = rw (e, le-leb (r .least) n h, le-leb n (r .greatest) l)
+-- above the greatest
+pub goodNumber-high : (before : List ℕ) (n : ℕ) (r : Row) → rowAt (length before) ≡ r → r .greatest < n → goodNumber before n ≡ false
+unfolding goodNumber
+goodNumber-high before n r e h = rw (e, lt-leb n (r .greatest) h, and-false)

@@ -1,71 +1,117 @@
 -- Laws of the User IDs of the seats: the name in a row, place by place, and the seat that is looked for.
 -- Assumes nothing.
-use mathlib.Core.Path.{_≡_, sym, ap, _∙_}
-use mathlib.Core.Bool.{Bool, true, false, not, _&&_, and-false}
-use mathlib.Core.List.{List, [], _∷_}
+use mathlib.Core.Path.{_≡_, sym, ap, _∙_, subst}
+use mathlib.Core.Logic.{⊎-elim}
+use mathlib.Core.Bool.{Bool, true, false, _&&_, and-false}
+use mathlib.Core.List.{List, [], _∷_, _++_}
 use mathlib.Core.Option.{none, some}
-use Prim.Native.Nat.{ℕ, _+_, _≤_, _<_, min}
+use Prim.Native.Nat.{ℕ, suc, _+_, _≤_, _<_, min}
 use native.Mathlib.Numerals.{add-one}
 use native.Mathlib.Omega.{arith}
-use lib.ListN.{length, getD, take, drop, length-take, List·getD-append}
-use lib.Seq.{drop-cons, getD-take}
-use lib.Dec.{eqb}
-use borrow.Author.Tests.{eq-eqb, ne-eqb, le-leb, lt-leb}
-use Rattle.octets.specs.Choice.{same, front, first-place}
+use lib.ListN.{length, getD, take, drop, length-take, take-append-drop, List·getD-eq-default}
+use lib.Seq.{drop-cons, length-take-le, getD-take, take-all}
+use lib.Dec.{T, eqb, eqb→eq}
+use borrow.Author.Tests.{eq-eqb, ne-eqb, le-leb, lt-leb, eqb-true, not-false}
+use Rattle.octets.specs.Choice.{same, every, front, first-place}
 use Rattle.octets.specs.Buffer.{zerosFrom}
-use Rattle.octets.proofs.Choice.{front-split, length-front-le, front-drop-true, front-drop-false, front-drop-end, first-place-none, first-place-some}
-use Rattle.octets.proofs.Places.{take-front}
+use Rattle.octets.proofs.Choice.{T-true, T-false, false-T, T-and-left, T-and-right, le-or-lt, test-eq, same-eq, eq-same, same-end, every-front, length-front-le, front-stop, front-all, front-append, front-drop-true, front-drop-false, front-drop-end, first-place-none, first-place-some}
+use Rattle.octets.proofs.Places.{take-front, length-front-every}
 use Rattle.octets.proofs.Buffer.{same-padded}
-use Rattle.sheet.specs.Line.{longestName}
-use Rattle.sheet.specs.Judge.{userId}
+use Rattle.sheet.specs.Judge.{longestName, userId}
 use Rattle.sheet.specs.Value.{rowOf, nameOf}
-use Rattle.sheet.specs.Find.{seatOfUser}
-use Rattle.sheet.specs.Inner.{newName, goodRow}
+use Rattle.sheet.specs.Find.{seatOfUser, newName}
+use Rattle.sheet.specs.Inner.{nonzero, goodRow}
 
 -- ---- the name in a row, from a place on
 
--- an octet of a name
-nonzero : ℕ → Bool
-nonzero c = not (eqb c 0)
-
 -- a zero ends it
 pub nameOf-zero : (row : List ℕ) (at : ℕ) → at < length row → getD row at 0 ≡ 0 → nameOf (drop at row) ≡ []
-unfolding nameOf nonzero
+unfolding nameOf
 nameOf-zero row at h e = front-drop-false nonzero row at h (rw (eq-eqb _ _ e))
 
 -- any other octet goes on
 pub nameOf-step : (row : List ℕ) (at : ℕ) → at < length row → (getD row at 0 ≡ 0 → ⊥)
     → nameOf (drop at row) ≡ getD row at 0 ∷ nameOf (drop (at + 1) row)
-unfolding nameOf nonzero
+unfolding nameOf
 nameOf-step row at h e = front-drop-true nonzero row at h (rw (ne-eqb _ _ e))
 
 -- the row's end ends it too
 pub nameOf-end : (row : List ℕ) (at : ℕ) → length row ≤ at → nameOf (drop at row) ≡ []
-unfolding nameOf nonzero
+unfolding nameOf
 nameOf-end row at h = front-drop-end nonzero row at h
 
 -- it is no longer than the row
 pub length-nameOf-le : (row : List ℕ) → length (nameOf row) ≤ length row
-unfolding nameOf nonzero
+unfolding nameOf
 length-nameOf-le row = length-front-le nonzero row
-
--- its octets are the row's
-getD-nameOf : (row : List ℕ) (i : ℕ) → i < length (nameOf row) → getD (nameOf row) i 0 ≡ getD row i 0
-unfolding nameOf nonzero
-getD-nameOf row i h =
-    sym (ap (λ (l : List ℕ). getD l i 0) (front-split nonzero row) ∙ List·getD-append (front nonzero row) (drop (length (front nonzero row)) row) 0 i h)
 
 -- it is the row's front
 pub take-nameOf : (row : List ℕ) → take (length (nameOf row)) row ≡ nameOf row
-unfolding nameOf nonzero
+unfolding nameOf
 take-nameOf row = take-front nonzero row
 
--- ---- a row's name and another, place by place
+-- where it ends the row ends, or a zero stands
+nameOf-stop : (row : List ℕ) → getD row (length (nameOf row)) 0 ≡ 0
+unfolding nameOf
+nameOf-stop row =
+    ⊎-elim (λ h. List·getD-eq-default row 0 h) (λ h. eqb-true _ _ (not-false _ (front-stop nonzero row h))) (le-or-lt (length row) (length (nameOf row)))
+
+-- a zero in a row, or its end, behind octets of which none is
+nameOf-front : (row name : List ℕ) → take (length name) row ≡ name → getD row (length name) 0 ≡ 0 → T (every nonzero name) → nameOf row ≡ name
+unfolding nameOf
+nameOf-front row name e z t =
+    let n = length name in
+    ⊎-elim
+    (λ h. let whole : row ≡ name = sym (take-all n row h) ∙ e in rw whole (front-all nonzero name t))
+    (λ h.
+    let split : row ≡ name ++ (getD row n 0 ∷ drop (suc n) row) = sym (take-append-drop n row) ∙ rw (e, drop-cons row n 0 h) in
+    ap (front nonzero) split ∙ front-append nonzero name (drop (suc n) row) (getD row n 0) t (rw (eq-eqb _ _ z)))
+    (le-or-lt (length row) n)
+
+-- A row's name is a given one exactly if the row begins with it and ends there, or has a zero there, and none is in it.
+pub same-nameOf : (row name : List ℕ)
+    → same (nameOf row) name ≡ (eqb (getD row (length name) 0) 0 && (same (take (length name) row) name && eqb (length (nameOf name)) (length name)))
+unfolding nameOf
+same-nameOf row name =
+    let n = length name in
+    let ends = eqb (getD row n 0) 0 in
+    let begins = same (take n row) name in
+    let whole = eqb (length (nameOf name)) n in
+    test-eq (same (nameOf row) name) (ends && (begins && whole))
+    (λ t. subst (λ (l : List ℕ). T (eqb (getD row (length l) 0) 0 && (same (take (length l) row) l && eqb (length (nameOf l)) (length l))))
+    (same-eq (nameOf row) name t)
+    (rw (eq-eqb _ _ (nameOf-stop row), T-true (same (take (length (nameOf row)) row) (nameOf row)) (eq-same _ _ (take-nameOf row)), length-front-every nonzero (nameOf row))
+    (every-front nonzero row)))
+    (λ t.
+    let rest = T-and-right ends (begins && whole) t in
+    eq-same (nameOf row) name
+    (nameOf-front row name
+    (same-eq (take n row) name (T-and-left begins whole rest))
+    (eqb→eq _ _ (T-and-left ends (begins && whole) t))
+    (rw (length-front-every nonzero name) at (T-and-right begins whole rest))))
+
+-- ---- the first n octets of two rows, place by place
+
+module _ (a b : List ℕ) (n : ℕ) (h : n ≤ length a) (l : n ≤ length b) where
+  -- place i, then the places behind it
+  pub same-take-step : (i : ℕ) → i < n
+      → same (drop i (take n a)) (drop i (take n b)) ≡ (eqb (getD a i 0) (getD b i 0) && same (drop (i + 1) (take n a)) (drop (i + 1) (take n b)))
+  same-take-step i m =
+      rw (add-one, drop-cons (take n a) i 0 (omega (arith, length-take-le n a h)), drop-cons (take n b) i 0 (omega (arith, length-take-le n b l)), getD-take n a i 0 m, getD-take n b i 0 m)
+
+  -- no place is left
+  pub same-take-end : (i : ℕ) → n ≤ i → same (drop i (take n a)) (drop i (take n b)) ≡ true
+  same-take-end i m = same-end (take n a) (take n b) i (omega (arith, length-take-le n a h)) (omega (arith, length-take-le n b l))
+
+-- rows that differ there are not the same
+pub same-take-false : (n : ℕ) (a b : List ℕ) → same (take n a) (take n b) ≡ false → same a b ≡ false
+same-take-false n a b e = T-false (same a b) (λ t. false-T _ e (eq-same (take n a) (take n b) (ap (take n) (same-eq a b t))))
+
+-- ---- the octets of one, place by place
 
 -- place i, then the places behind it
-pub same-nameOf-step : (row name : List ℕ) (i : ℕ) → i < length (nameOf row) → i < length name
-    → same (drop i (nameOf row)) (drop i name) ≡ (eqb (getD row i 0) (getD name i 0) && same (drop (i + 1) (nameOf row)) (drop (i + 1) name))
-same-nameOf-step row name i h l = rw (add-one, drop-cons (nameOf row) i 0 h, drop-cons name i 0 l, getD-nameOf row i h)
+pub every-drop-step : (p : ℕ → Bool) (s : List ℕ) (i : ℕ) → i < length s → every p (drop i s) ≡ (p (getD s i 0) && every p (drop (i + 1) s))
+every-drop-step p s i h = rw (add-one, drop-cons s i 0 h)
 
 -- ---- the first of so many seats that passes a test, where the seats before one fail
 

@@ -1,27 +1,26 @@
 -- Laws on a value judged without its text: the struct line by line, and the User IDs row by row. Assumes nothing.
 use mathlib.Core.Path.{_≡_, refl, sym, ap, ap₂, _∙_, subst}
 use mathlib.Core.Logic.{⊎-elim, _↔_}
-use mathlib.Core.Bool.{Bool, true, false, not, _&&_, and-assoc}
+use mathlib.Core.Bool.{Bool, true, false, not, _&&_}
 use mathlib.Core.List.{List, [], _++_, map}
 use Prim.Native.Nat.{ℕ, _+_, _-_, _≤_, _<_}
-use native.Mathlib.Numerals.{add-one}
 use native.Mathlib.Omega.{arith}
-use lib.ListN.{length, getD, take, drop, length-append, length-take, length-drop, length-map, take-append-drop, drop-of-length-le, List·getD-append, List·getD-map, List·getD-eq-default}
-use lib.Seq.{length-take-le, drop-cons, take-suc, take-take, getD-take, take-append-add, drop-append-add, getD-append-add, ext-getD}
+use lib.ListN.{length, getD, take, drop, length-append, length-take, length-drop, length-map, take-append-drop, List·getD-append, List·getD-map, List·getD-eq-default}
+use lib.Seq.{length-take-le, take-take, getD-take, take-append-add, drop-append-add, getD-append-add, ext-getD}
 use lib.Dec.{T, eqb, eqb→eq}
 use borrow.Author.Tests.{eq-eqb, ne-eqb, eqb-false}
 use Rattle.octets.specs.Choice.{same, some-of}
 use Rattle.octets.specs.Buffer.{zerosFrom, padded}
 use Rattle.octets.proofs.Choice.{T-true, true-T, T-false, false-T, decide, pick-true, pick-false, T-and, T-and-left, T-and-right, same-eq, eq-same, le-or-lt}
-use Rattle.octets.proofs.Buffer.{zerosFrom-end, zerosFrom-step, padded-full, getD-padded, length-padded, same-padded}
+use Rattle.octets.proofs.Buffer.{padded-full, getD-padded, length-padded, same-padded}
 use Rattle.octets.proofs.Lists.{map-take, getD-default}
 use Rattle.sheet.specs.declared.Sheet.{Sheet}
 use Rattle.sheet.specs.Table.{table, rowAt, numberLines, seatsLine, mostSeats}
-use Rattle.sheet.specs.Line.{Entry}
-use Rattle.sheet.specs.Judge.{numbersIn, namesIn, taken, goodNumber, goodName, userId, good, inTurn, whole, valid}
+use Rattle.sheet.specs.Judge.{Entry, numbersIn, namesIn, taken, goodNumber, userId, goodName, good, inTurn, whole, valid}
 use Rattle.sheet.specs.Promises.{numbers-of≡, are-valid≡, valid≡}
 use Rattle.sheet.specs.Value.{sheetBy, sheetFrom, sheetIn, sheetOf, rowOf, usersOf, numbersOf, nameOf, alone, seatEntries, entriesOf, validWith, validAlone}
-use Rattle.sheet.specs.Inner.{newName, goodRow}
+use Rattle.sheet.specs.Find.{newName}
+use Rattle.sheet.specs.Inner.{goodRow}
 use Rattle.sheet.proofs.Laws.Entries.{at-inTurn, eq-whole, length-numbersIn, inTurn-at, good-name}
 use Rattle.sheet.proofs.Laws.Fresh.{seats-bound}
 use Rattle.sheet.proofs.Laws.Rows.{take-nameOf, goodRow-unused, goodRow-used}
@@ -31,55 +30,21 @@ use Rattle.sheet.proofs.Laws.Claims.{valid-alone-exactly}
 
 -- ---- a struct's numbers, line by line
 
--- what is to be judged from place k on: the numbers of the lines, each behind those before it, and zeros behind the lines
-pub restGood : List ℕ → ℕ → ℕ → Bool
-restGood numbers lines k =
-    let ns = take lines numbers in
-    inTurn goodNumber (take k ns) (drop k ns) && zerosFrom numbers (k + (lines - k))
+-- the numbers of so many lines, each good behind those before it, and zeros behind the lines
+abbrev pub linesGood : List ℕ → ℕ → Bool
+linesGood numbers lines = inTurn goodNumber [] (take lines numbers) && zerosFrom numbers lines
 
-module _ (numbers : List ℕ) (lines k : ℕ) where
-  -- a line's number
-  pub restGood-line : k < lines → lines ≤ length numbers
-      → restGood numbers lines k ≡ (goodNumber (take k numbers) (getD numbers k 0) && restGood numbers lines (k + 1))
-  unfolding restGood inTurn
-  restGood-line h l =
-      let ns = take lines numbers in
-      let m : k < length ns = rw (length-take-le lines numbers l) h in
-      let e : k + 1 + (lines - (k + 1)) ≡ k + (lines - k) = omega arith in
-      rw (e, add-one, take-suc ns k 0 m, drop-cons ns k 0 m, take-take k lines numbers (omega arith), getD-take lines numbers k 0 h)
-      (and-assoc (goodNumber (take k numbers) (getD numbers k 0)) _ (zerosFrom numbers (k + (lines - k))))
-
-  -- a place behind the lines
-  pub restGood-past : lines ≤ k → k < length numbers → restGood numbers lines k ≡ (eqb (getD numbers k 0) 0 && restGood numbers lines (k + 1))
-  unfolding restGood inTurn
-  restGood-past h l =
-      let ns = take lines numbers in
-      let m : length ns ≤ k = rw (length-take lines numbers) (omega arith) in
-      let e : k + (lines - k) ≡ k = omega arith in
-      let e′ : k + 1 + (lines - (k + 1)) ≡ k + 1 = omega arith in
-      rw (e, e′, drop-of-length-le ns m, drop-of-length-le ns {i = k + 1} (omega arith)) (zerosFrom-step numbers k l)
-
-  -- no place is left
-  pub restGood-end : lines ≤ k → length numbers ≤ k → restGood numbers lines k ≡ true
-  unfolding restGood inTurn
-  restGood-end h l =
-      let ns = take lines numbers in
-      let m : length ns ≤ k = rw (length-take lines numbers) (omega arith) in
-      let e : k + (lines - k) ≡ k = omega arith in
-      rw (e, drop-of-length-le ns m) (T-true (zerosFrom numbers k) (zerosFrom-end numbers k l))
-
--- all of it, where the seats are no more than eight
-pub restGood-all : (s : Sheet) → length (s .ssrcs) ≡ mostSeats → s .seats ≤ mostSeats
-    → validAlone s ≡ restGood (numbersOf s ++ s .ssrcs) (numberLines + s .seats) 0
-unfolding restGood validAlone numbersOf sheetFrom sheetBy numberLines seatsLine table zerosFrom
-restGood-all s eight h =
+-- a struct is judged so, where the seats are no more than eight
+pub valid-lines : (s : Sheet) → length (s .ssrcs) ≡ mostSeats → s .seats ≤ mostSeats
+    → validAlone s ≡ linesGood (numbersOf s ++ s .ssrcs) (numberLines + s .seats)
+unfolding validAlone numbersOf sheetFrom sheetBy numberLines seatsLine table zerosFrom
+valid-lines s eight h =
     let xs = take (s .seats) (s .ssrcs) in
     let l : length xs ≡ s .seats = length-take-le (s .seats) (s .ssrcs) (omega arith) in
     let w : T (whole (numbersOf s ++ xs)) = eq-whole (numbersOf s ++ xs) (length-append (numbersOf s) xs ∙ ap (λ (n : ℕ). numberLines + n) l) in
     let z : same (s .ssrcs) (padded mostSeats 0 xs) ≡ zerosFrom (s .ssrcs) (s .seats) =
     ap (λ (n : ℕ). same (s .ssrcs) (padded n 0 xs)) (sym eight) ∙ same-padded (s .ssrcs) (s .seats) (omega arith) in
-    let e : 0 + (numberLines + s .seats - 0) ≡ numberLines + s .seats = omega arith in
-    rw (T-true (whole (numbersOf s ++ xs)) w, z, e, take-append-add (numbersOf s) (s .ssrcs) (s .seats), drop-append-add (numbersOf s) (s .ssrcs) (s .seats))
+    rw (T-true (whole (numbersOf s ++ xs)) w, z, take-append-add (numbersOf s) (s .ssrcs) (s .seats), drop-append-add (numbersOf s) (s .ssrcs) (s .seats))
 
 -- "seats (1 to 8)"
 pub few-seats : (s : Sheet) → T (validAlone s) → s .seats ≤ mostSeats
@@ -87,10 +52,6 @@ unfolding validAlone numbersOf seatsLine numberLines table
 few-seats s t =
     let ns = numbersOf s ++ take (s .seats) (s .ssrcs) in
     seats-bound ns (T-and-left (inTurn goodNumber [] ns) _ t)
-
--- a struct with more seats is no sheet's
-pub many-seats : (s : Sheet) → mostSeats < s .seats → validAlone s ≡ false
-many-seats s h = T-false (validAlone s) (λ t. let b : s .seats ≤ mostSeats = few-seats s t in omega arith)
 
 -- ---- a struct by its numbers and the SSRCs behind them
 
@@ -112,15 +73,15 @@ module _ (s : Sheet) (ns : List ℕ) (e : ns ≡ numbersOf s ++ s .ssrcs) (long 
   unfolding numbersOf seatsLine numberLines table
   seats-number = rw e
 
-  -- few seats: it is judged number by number
-  pub numbers-judged : getD ns seatsLine 0 ≤ mostSeats → validAlone s ≡ restGood ns (numberLines + getD ns seatsLine 0) 0
+  -- no more than eight, for a sheet's struct
+  pub numbers-few : T (validAlone s) → getD ns seatsLine 0 ≤ mostSeats
+  numbers-few t = rw seats-number (few-seats s t)
+
+  -- then it is judged number by number
+  pub numbers-judged : getD ns seatsLine 0 ≤ mostSeats → validAlone s ≡ linesGood ns (numberLines + getD ns seatsLine 0)
   numbers-judged h =
       rw (seats-number, e)
-      (restGood-all s (unfold numbersOf numberLines table in omega (arith, long, ap length e)) (rw seats-number at h))
-
-  -- too many: it is no sheet's
-  pub numbers-many : mostSeats < getD ns seatsLine 0 → validAlone s ≡ false
-  numbers-many h = many-seats s (rw seats-number at h)
+      (valid-lines s (unfold numbersOf numberLines table in omega (arith, long, ap length e)) (rw seats-number at h))
 
 -- ---- numbers that are lent to a call
 

@@ -3,7 +3,7 @@
 use mathlib.Core.Path.{_≡_, refl, sym, ap, _∙_, subst}
 use mathlib.Core.Bool.{Bool, true, _&&_}
 use mathlib.Core.List.{List, [], _∷_, _++_, map, append-assoc}
-use mathlib.Core.Option.{Option, none, some, Option·some-injective, Option·none-ne-some}
+use mathlib.Core.Option.{Option, none, some}
 use Prim.Native.Nat.{ℕ, _+_, _-_, _*_, _%_, _^_, _≤_, _<_}
 use native.Mathlib.Nat.{mod-eq-of-lt}
 use native.Mathlib.Omega.{arith}
@@ -11,34 +11,34 @@ use lib.ListN.{length, getD, drop, replicate, length-append, length-drop}
 use lib.Seq.{getD-drop}
 use lib.Dec.{T, leb, ltb, eqb, leb→le, ltb→lt, lt→ltb, eqb-refl}
 use borrow.Author.Tests.{le-leb}
-use Rattle.octets.specs.Choice.{every, keep}
+use Rattle.octets.specs.Choice.{every}
 use Rattle.octets.specs.Big.{bigOf, bigAt}
 use Rattle.octets.specs.Buffer.{padded}
-use Rattle.octets.proofs.Choice.{T-true, T-and, T-and-left, T-and-right, T-or-left, T-or-right, pick-cases, every-replicate, every-weaker, every-both}
+use Rattle.octets.proofs.Choice.{T-true, T-and, T-and-left, T-and-right, T-or-left, T-or-right, every-replicate, every-weaker, every-both}
 use Rattle.octets.proofs.Keep.{keep-all}
 use Rattle.octets.proofs.Big.{length-bigOf, every-bigOf, bigAt-drop, bigAt-put}
 use Rattle.sheet.specs.declared.Sheet.{Sheet}
 use Rattle.sheet.specs.Value.{validAlone}
-use Rattle.sheet.specs.Line.{visible, longestName}
-use Rattle.sheet.specs.Judge.{userId}
-use Rattle.sheet.proofs.Laws.Scanned.{userId-short}
-use Rattle.packet.specs.declared.field.Field.{Field}
-use Rattle.packet.specs.declared.Numbers.{Numbers}
+use Rattle.sheet.specs.Judge.{visible, longestName, userId}
+use Rattle.sheet.proofs.Laws.Entries.{userId-short}
+use Rattle.fields.specs.declared.field.Field.{Field}
+use Rattle.fields.specs.Header.{firstField, word, ssrcIn, ackAsked}
+use Rattle.fields.specs.Walk.{toWord, nextAt, fieldRight, fieldAt, valueOf, fieldsFrom, fieldsOf}
+use Rattle.fields.specs.Layout.{Content, laid, laidAll, idRight, idsRight, contentOf}
+use Rattle.fields.specs.Claims.{Headed}
+use Rattle.fields.proofs.Laws.Walk.{right-end, right-inside, fieldsFrom-right, fieldsFrom-wrong}
+use Rattle.fields.proofs.Laws.Layouts.{length-laid, laid-id, laid-len, laid-content, laid-rest, laid-right, whole-exactly}
 use Rattle.packet.specs.declared.kind.Form.{Form}
 use Rattle.packet.specs.declared.kind.Form.the-variants.{UserId, Number, Cause, Result, MessageType, Barred}
-use Rattle.packet.specs.Header.{firstField, word, ssrcIn, ackAsked}
-use Rattle.packet.specs.Walk.{toWord, nextAt, fieldRight, fieldAt, valueOf, fieldsFrom, fieldsOf}
-use Rattle.packet.specs.Layout.{Content, laid, laidAll, idRight, idsRight, contentOf}
-use Rattle.packet.specs.Kind.{Row, Kind, kinds, kindOf, numbersOf, mayLack, mayHave, grants}
+use Rattle.packet.specs.Kind.{Row, Kind, kindOf, numbersOf, mayLack, mayHave, grants}
 use Rattle.packet.specs.Judge.{Held, absent, numberAt, fits, heldIn, fieldsWith}
 use Rattle.packet.specs.Reading.{reads, readBy, readOf}
-use Rattle.packet.specs.Claims.{Headed, useful, present, AllowsAll, isOne as isOneHeld}
-use Rattle.packet.proofs.Laws.Walk.{right-end, right-inside, fieldsFrom-right, fieldsFrom-wrong}
-use Rattle.packet.proofs.Laws.Layouts.{length-laid, laid-id, laid-len, laid-content, laid-rest, laid-right, whole-exactly}
+use Rattle.packet.specs.Claims.{useful, present, AllowsAll, isOne as isOneHeld}
 use Rattle.packet.proofs.Laws.Allowed.{uses}
 use Rattle.packet.proofs.Laws.Accepts.{accepts-exactly}
-use Rattle.writing.specs.Meaning.{Value, nothing, numeral, spelt, nowhere, valueIn, Meaning, meaning}
-use Rattle.writing.specs.Packet.{isName, isNumber, numberHeld, within, holds, isNothing, takes, takesAll, isOne, writable, octetsFor, contentsFor, withHeader, packetAs, kindWith, packetOf}
+use Rattle.plan.specs.Meaning.{Value, nothing, numeral, spelt, nowhere, valueIn, Meaning, meaning}
+use Rattle.plan.specs.Packet.{isName, isNumber, numberHeld, within, holds, isNothing, takes, takesAll, isOne, writable, octetsFor, contentsFor, withHeader, packetAs, packetOf}
+use Rattle.plan.proofs.Laws.Packets.{Written, packetOf-written}
 use Rattle.writing.specs.Claims.{areOctets}
 use Rattle.writing.proofs.Laws.Kinds.{KindRight, kind-right, kind-found, kindWith-kind}
 use Rattle.writing.proofs.Laws.Grants.{grants-meant}
@@ -359,25 +359,6 @@ fields-mean p grant rows values at i t e =
     e
 
 -- ---- the packet
-
--- a packet that is written is that of a kind which takes the values
-pub record Written (n : Numbers) (m : Meaning) (p : List ℕ) : Type 0 where
-  pub kind : Kind
-  pub found : kindWith (m .kind) (kinds n) ≡ some kind
-  pub taken : T (writable kind m)
-  pub is : p ≡ packetAs kind m
-
-pub packetOf-written : (n : Numbers) (m : Meaning) (p : List ℕ) → packetOf n m ≡ some p → Written n m p
-unfolding packetOf
-packetOf-written n m p e = by (kindWith (m .kind) (kinds n)) refl
-  where
-    by : (o : Option Kind) → kindWith (m .kind) (kinds n) ≡ o → Written n m p
-    by none q = absurd (Option·none-ne-some p (rw q at e))
-    by (some k) q =
-        pick-cases (λ o. o ≡ some p → Written n m p) (writable k m) (some (packetAs k m)) none
-        (λ t r. record { kind = k; found = q; taken = t; is = sym (Option·some-injective (packetAs k m) p r) })
-        (λ f r. absurd (Option·none-ne-some p r))
-        (rw q at e)
 
 module _ (s : Sheet) (v : T (validAlone s)) (m : Meaning) (p : List ℕ) (w : Written (numbersOf s) m p) where
   -- its kind

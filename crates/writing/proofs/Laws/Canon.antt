@@ -19,21 +19,21 @@ use Rattle.octets.proofs.Lists.{listed-take}
 use Rattle.octets.proofs.Big.{length-bigOf, bigOf-bigAt}
 use Rattle.sheet.specs.declared.Sheet.{Sheet}
 use Rattle.sheet.specs.Value.{validAlone}
-use Rattle.packet.specs.declared.field.Field.{Field}
+use Rattle.fields.specs.declared.field.Field.{Field}
+use Rattle.fields.specs.Header.{firstField}
+use Rattle.fields.specs.Walk.{zeros, padding, valueOf, fieldAt, fieldsOf, whole}
+use Rattle.fields.specs.Layout.{Content, laidAll, contentOf, contentsOf}
+use Rattle.fields.proofs.Laws.Walk.{right-padding, every-field}
+use Rattle.fields.proofs.Laws.Fields.{coded, coded-says, every-coded}
+use Rattle.fields.proofs.Laws.Layouts.{laid-once, walk-meets}
 use Rattle.packet.specs.declared.kind.Form.{Form}
 use Rattle.packet.specs.declared.kind.Form.the-variants.{UserId, Number, Cause, Result, MessageType, Barred}
-use Rattle.packet.specs.Header.{firstField}
-use Rattle.packet.specs.Walk.{zeros, padding, valueOf, fieldAt, fieldsOf, whole}
-use Rattle.packet.specs.Layout.{Content, laidAll, contentOf, contentsOf}
 use Rattle.packet.specs.Kind.{Row, numbersOf, mayLack, grants}
 use Rattle.packet.specs.Judge.{Held, absent, numberAt, fits, heldIn, fieldsWith}
 use Rattle.packet.specs.Claims.{present, Allows, AllowsAll, isOne}
-use Rattle.packet.proofs.Laws.Walk.{right-padding, every-field}
-use Rattle.packet.proofs.Laws.Fields.{coded, coded-says, every-coded}
-use Rattle.packet.proofs.Laws.Layouts.{laid-once, walk-meets}
 use Rattle.packet.proofs.Laws.Allowed.{uses, orderly, orderly-rest, arranged-used, allowed-ind, orderly-lack, first-allowed}
-use Rattle.writing.specs.Meaning.{Value, valueIn, Meaning}
-use Rattle.writing.specs.Packet.{numberHeld, isNothing, octetsFor, contentsFor, header, withHeader, packetOf, packetAs}
+use Rattle.plan.specs.Meaning.{Value, valueIn, Meaning}
+use Rattle.plan.specs.Packet.{numberHeld, isNothing, octetsFor, contentsFor, header, withHeader, packetOf, packetAs}
 use Rattle.writing.specs.Canonical.{inOrder, bare, canonicalIn, canonical}
 use Rattle.writing.specs.Claims.{areOctets, ReadsTo}
 use Rattle.packet.proofs.Laws.Accepts.{kind-orderly}

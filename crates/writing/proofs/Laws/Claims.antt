@@ -13,9 +13,9 @@ use Rattle.sheet.specs.declared.Sheet.{Sheet}
 use Rattle.sheet.specs.Value.{validAlone}
 use Rattle.packet.specs.Kind.{numbersOf}
 use Rattle.packet.specs.Reading.{Outcome, readOf}
-use Rattle.writing.specs.Meaning.{Meaning, meaning}
-use Rattle.writing.specs.Packet.{packetAs, packetOf}
-use Rattle.writing.specs.Writing.{Made, made, refused, roomFor, packetFor, writeOf}
+use Rattle.plan.specs.Meaning.{Meaning, meaning}
+use Rattle.plan.specs.Packet.{packetAs, packetOf, packetFor}
+use Rattle.writing.specs.Writing.{Made, made, refused, roomFor, writeOf}
 use Rattle.writing.specs.Canonical.{canonical}
 use Rattle.writing.specs.Claims.{ReadsTo, ReadsBack, WritableExactly, FiveExactly, WrittenAgain, CanonicalOnce, Twice}
 use Rattle.writing.proofs.Laws.Back.{packet-reads}

@@ -12,21 +12,22 @@ use Rattle.octets.proofs.Big.{bigAt-lt}
 use Rattle.sheet.specs.declared.Sheet.{Sheet}
 use Rattle.sheet.specs.Judge.{userId}
 use Rattle.sheet.specs.Value.{validAlone}
-use Rattle.packet.specs.declared.field.Field.{Field}
+use Rattle.fields.specs.declared.field.Field.{Field}
+use Rattle.fields.specs.Header.{sizeRight, headRight, ackAsked, ssrcIn}
+use Rattle.fields.specs.Walk.{fieldsOf, whole}
+use Rattle.fields.specs.Claims.{Headed}
 use Rattle.packet.specs.declared.kind.Form.{Form}
 use Rattle.packet.specs.declared.kind.Form.the-variants.{UserId, Number, Cause, Result, MessageType, Barred}
 use Rattle.packet.specs.declared.Numbers.{Numbers}
 use Rattle.packet.specs.declared.kind.Slot.{Slot}
-use Rattle.packet.specs.Header.{sizeRight, headRight, ackAsked, ssrcIn}
-use Rattle.packet.specs.Walk.{fieldsOf, whole}
 use Rattle.packet.specs.Kind.{Row, Kind, kindOf, numbersOf, mayHave, grants}
 use Rattle.packet.specs.Judge.{Held, fits, numberAt, heldIn, filledIn, faultOf, heldBy}
 use Rattle.packet.specs.Reading.{Outcome, reads, check, slotsIn, messageOf, readAs, readBy, readOf}
-use Rattle.packet.specs.Claims.{Headed, nameRight, useful, Arranged, present, Allows, AllowsAll, isOne}
+use Rattle.packet.specs.Claims.{nameRight, useful, Arranged, present, Allows, AllowsAll, isOne}
 use Rattle.packet.proofs.Laws.Accepts.{readBy-is, accepts-exactly}
 use Rattle.packet.proofs.Laws.NamesInside.{names-right}
-use Rattle.writing.specs.Meaning.{valueIn, Meaning, meaning}
-use Rattle.writing.specs.Packet.{within, holds, isNothing, takes, takesAll, isOne as isOneMeant, packetOf, writable, packetAs}
+use Rattle.plan.specs.Meaning.{valueIn, Meaning, meaning}
+use Rattle.plan.specs.Packet.{within, holds, isNothing, takes, takesAll, isOne as isOneMeant, packetOf, writable, packetAs}
 use Rattle.writing.specs.Claims.{areOctets, ReadsTo}
 use Rattle.writing.proofs.Laws.Kinds.{kind-with}
 use Rattle.writing.proofs.Laws.Front.{octets-lt, ssrc-narrow}

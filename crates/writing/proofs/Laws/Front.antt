@@ -13,9 +13,9 @@ use Rattle.octets.specs.Choice.{every}
 use Rattle.octets.specs.Big.{bigAt, bigOf}
 use Rattle.octets.proofs.Choice.{T-and, T-and-left, T-and-right, every-both, every-getD-or}
 use Rattle.octets.proofs.Big.{length-bigOf, every-bigOf, bigAt-lt, bigAt-put, drop-bigAt}
-use Rattle.packet.specs.Header.{firstField, word, sizeRight, versionRight, headRight, ackAsked, numberIn, ssrcIn, lettersIn}
-use Rattle.packet.proofs.Laws.Sized.{sized}
-use Rattle.writing.specs.Packet.{firstOctet, header}
+use Rattle.fields.specs.Header.{firstField, word, sizeRight, versionRight, headRight, ackAsked, numberIn, ssrcIn, lettersIn}
+use Rattle.fields.proofs.Laws.Sized.{sized}
+use Rattle.plan.specs.Packet.{firstOctet, header}
 use Rattle.writing.specs.Claims.{areOctets}
 
 -- ---- octets

@@ -9,8 +9,8 @@ use Rattle.octets.proofs.Choice.{pick-cases}
 use Rattle.packet.specs.Kind.{Row, grants}
 use Rattle.packet.specs.Judge.{Held, absent, given, named}
 use Rattle.packet.specs.Claims.{isOne}
-use Rattle.writing.specs.Meaning.{Value, spelt, nowhere, valueIn}
-use Rattle.writing.specs.Packet.{isOne as isOneMeant}
+use Rattle.plan.specs.Meaning.{Value, spelt, nowhere, valueIn}
+use Rattle.plan.specs.Packet.{isOne as isOneMeant}
 
 -- a map that keeps the test keeps whether the Result is 1
 pub grants-map : {A B : Type 0} (one : A → Bool) (other : B → Bool) (f : A → B) → ((a : A) → other (f a) ≡ one a)

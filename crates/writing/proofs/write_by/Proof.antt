@@ -1,55 +1,68 @@
--- `writing::write_by` meets its contract: it is asked first whether the numbers fit, then the message's plan is written, which is the packet
--- of its meaning (`planned-is`). Assumes nothing.
-use mathlib.Core.Path.{refl, sym, _∙_}
+-- `writing::write_by` meets its contract: what is planned of the message is written, or its refusal given (`writes-plan`, `writes-none`).
+-- Assumes nothing.
+use mathlib.Core.Path.{_≡_, refl}
+use lib.ListN.{length}
 use borrow.Author.Needs.{needs}
-use borrow.Author.Tests.{not-true, not-false}
 use denote.Ref.{now}
-use Rattle.octets.proofs.Choice.{true-T}
-use Rattle.sheet.specs.Value.{sheetFrom}
-use Rattle.writing.specs.Writing.{writeBy, told, after}
-use Rattle.writing.proofs.Laws.Kinds.{fitting-fits}
-use Rattle.writing.proofs.Laws.Plans.{planned-is}
+use Rattle.packet.specs.Message.{messageSaid}
+use Rattle.plan.specs.Plan.{planSaid, planOf}
+use Rattle.plan.proofs.Laws.Claims.{plans-the-packet}
+use Rattle.writing.specs.Writing.{told, after}
+use Rattle.writing.proofs.Laws.Planned.{writes-plan, writes-none}
 use Rattle.writing.proofs.write_by.Statement.{statement}
 use Rattle.writing.proofs.write_by.Tie as tie
 
-fit-requires : tie.Need-fit-requires
-fit-requires c κs = search needs
+-- the message has this plan
+planned : (c : tie.After-plan)
+    → let a = c .before .before .before .before .before .before .args in
+    planSaid (c .plan .given .0 .0) ≡ planOf (now (a .numbers)) (messageSaid (a .message)) (now (a .names))
+planned c = rw (c .plan .given .1) at (c .before .before .plan-of .ensures)
+
+plan-of-requires : tie.Need-plan-of-requires
+plan-of-requires c κs = search needs
+
+enum-known-plan : tie.Need-enum-known-plan
+enum-known-plan c = search needs
+
+write-plan-requires : tie.Need-write-plan-requires
+write-plan-requires c κs =
+    let p = c .before .before in
+    let a = p .before .before .before .before .before .before .args in
+    plans-the-packet (now (a .numbers)) (a .message) (now (a .names)) (p .plan .given .0 .0) (planned p) .1
+
+enum-known-number : tie.Need-enum-known-number
+enum-known-number c = search needs
 
 refused-requires : tie.Need-refused-requires
 refused-requires c κs = search needs
 
-returns : tie.Need-returns
-unfolding writeBy told after
-returns c = rw (sym (c .before .before .fit .ensures) ∙ not-true _ (c .before .if1 .taken)) (c .refused .ensures, refl)
-
-plan-of-requires : tie.Need-plan-of-requires
-plan-of-requires c κs = true-T _ (sym (c .before .fit .ensures) ∙ not-false _ (c .if1 .left))
-
-write-plan-requires : tie.Need-write-plan-requires
-write-plan-requires c κs = search needs
-
 same-length : tie.Need-same-length
 same-length c = search needs
 
+returns : tie.Need-returns
+returns c =
+    let p = c .before .before .before .before .before in
+    let a = p .before .before .before .before .before .before .args in
+    rw (writes-plan (now (a .numbers)) (a .message) (now (a .names)) (length (now (a .out))) (p .plan .given .0 .0) (planned p))
+    (c .before .before .write-plan .ensures)
+
 returns-2 : tie.Need-returns-2
-unfolding writeBy
+unfolding told after
 returns-2 c =
-    let plan = c .before .before .before .before in
-    let asked = plan .before .before in
-    let a = asked .before .before .before .before .args in
-    let holds = sym (asked .fit .ensures) ∙ not-false _ (plan .before .if1 .left) in
-    let ns = now (a .numbers) in
-    let means = planned-is (sheetFrom ns) (fitting-fits ns (true-T _ holds)) (a .message) (now (a .names)) (plan .plan-of .ensures .1) in
-    rw holds (rw (plan .plan-of .ensures .0, means) at (c .before .before .write-plan .ensures))
+    let r = c .before .before in
+    let a = r .before .before .before .before .before .before .args in
+    let none = rw (r .number .given .1) at (r .before .before .plan-of .ensures) in
+    rw (writes-none (now (a .numbers)) (a .message) (now (a .names)) (length (now (a .out))) (r .number .given .0 .0) none) (c .refused .ensures, refl)
 
 pub write-by-spec : {M : Type 1} → statement M
 write-by-spec =
     tie.close
     (tie.spec
-    fit-requires
-    refused-requires
-    returns
     plan-of-requires
+    enum-known-plan
     write-plan-requires
+    enum-known-number
+    refused-requires
     same-length
+    returns
     returns-2)

@@ -4,8 +4,9 @@ use borrow.Author.Needs.{needs}
 use borrow.Author.Tests.{not-true, not-false}
 use Rattle.octets.proofs.Choice.{T-true, true-T}
 use Rattle.sheet.proofs.Laws.Values.{sheetIn-counted, valid-counted}
-use Rattle.writing.specs.Writing.{fitting, writeOf, writeBy, told, after}
-use Rattle.writing.proofs.Laws.Kinds.{valid-fitting}
+use Rattle.plan.specs.Packet.{fitting}
+use Rattle.plan.proofs.Laws.Fitting.{valid-fitting}
+use Rattle.writing.specs.Writing.{writeOf, writeBy, told, after}
 use Rattle.writing.proofs.write_lent.Statement.{statement}
 use Rattle.writing.proofs.write_lent.Tie as tie
 

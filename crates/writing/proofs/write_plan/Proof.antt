@@ -1,25 +1,25 @@
 -- `writing::write_plan` meets its contract: a plan that is right has a packet as long as its size says, which goes into the buffer as its
 -- header and then, into the part behind it, its fields. Assumes nothing.
-use mathlib.Core.Path.{_≡_, refl, sym, _∙_}
+use mathlib.Core.Path.{_≡_, refl}
 use mathlib.Core.List.{List, _++_}
+use mathlib.Core.Option.{some}
 use Prim.Native.Nat.{ℕ, _+_, _-_, _≤_, _<_}
 use native.Mathlib.Omega.{arith}
 use lib.ListN.{length, length-append, length-take, length-drop}
 use lib.Dec.{T}
 use denote.Ref.{now}
 use borrow.Author.Needs.{needs}
-use borrow.Author.Tests.{not-true, not-false, le-leb, lt-leb}
+use borrow.Author.Tests.{le-leb, lt-leb}
 use Rattle.octets.specs.Big.{bigOf}
-use Rattle.octets.proofs.Choice.{T-true, true-T}
 use Rattle.octets.proofs.Big.{length-bigOf}
 use Rattle.octets.proofs.Buffer.{part-over}
-use Rattle.packet.specs.Header.{firstField}
-use Rattle.writing.specs.declared.parts.Plan.{Plan}
-use Rattle.writing.specs.Packet.{header, withHeader}
+use Rattle.fields.specs.Header.{firstField}
+use Rattle.plan.specs.declared.Plan.{Plan}
+use Rattle.plan.specs.Packet.{header, withHeader}
+use Rattle.plan.specs.Plan.{planOctets, planRight, planPacket, planSize}
+use Rattle.plan.proofs.Laws.Parts.{plan-length, plan-most}
 use Rattle.writing.specs.Writing.{made, refused, roomFor, told, after}
-use Rattle.writing.specs.Inner.{planOctets, planRight, planSize, planned}
 use Rattle.writing.proofs.Laws.Front.{length-header}
-use Rattle.writing.proofs.Laws.Parts.{plan-length, plan-most}
 use Rattle.writing.proofs.write_plan.Statement.{statement}
 use Rattle.writing.proofs.write_plan.Tie as tie
 
@@ -43,56 +43,43 @@ module _ (names : List ℕ) (plan : Plan) where
     length-packet = rw (length-append, length-head, plan-length names plan t)
 
     -- less room than that
-    no-room : (room : ℕ) → room < 12 + planSize plan → roomFor room (planned names plan) ≡ refused 11 0
-    unfolding planned withHeader roomFor
-    no-room room h = rw (T-true (planRight names plan) t, lt-leb (length packet) room (omega (arith, length-packet)))
+    no-room : (room : ℕ) → room < 12 + planSize plan → roomFor room (some (planPacket names plan)) ≡ refused 11 0
+    unfolding planPacket withHeader roomFor
+    no-room room h = rw (lt-leb (length packet) room (omega (arith, length-packet)))
 
     -- room enough
-    with-room : (room : ℕ) → 12 + planSize plan ≤ room → roomFor room (planned names plan) ≡ made packet
-    unfolding planned withHeader roomFor
-    with-room room h = rw (T-true (planRight names plan) t, le-leb (length packet) room (omega (arith, length-packet)))
+    with-room : (room : ℕ) → 12 + planSize plan ≤ room → roomFor room (some (planPacket names plan)) ≡ made packet
+    unfolding planPacket withHeader roomFor
+    with-room room h = rw (le-leb (length packet) room (omega (arith, length-packet)))
 
-are-right-requires : tie.Need-are-right-requires
-are-right-requires c κs = search needs
-
-refused-requires : tie.Need-refused-requires
-refused-requires c κs = search needs
-
-returns : tie.Need-returns
-unfolding planned roomFor told after
-returns c =
-    rw (sym (c .before .before .are-right .ensures) ∙ not-true _ (c .before .if1 .taken)) (c .refused .ensures, refl)
-
--- past the first test the plan is right
-right : (c : tie.Else1)
-    → let a = c .before .before .before .before .args in
+-- the plan is right
+right : (c : tie.After-size-of)
+    → let a = c .before .before .before .args in
     T (planRight (now (a .names)) (a .plan))
-right c =
-    let a = c .before .before .before .before .args in
-    true-T (planRight (now (a .names)) (a .plan)) (sym (c .before .are-right .ensures) ∙ not-false _ (c .if1 .left))
+right c = c .before .before .before .pre
 
 size-of-requires : tie.Need-size-of-requires
 size-of-requires c κs = search needs
 
 add-size : tie.Need-add-size
-add-size c = search needs
+add-size c = let most = plan-most (now (c .before .before .before .args .names)) (c .before .before .before .args .plan) (right c) in omega (arith, c .size-of .ensures)
 
-refused-requires-2 : tie.Need-refused-requires-2
-refused-requires-2 c κs = search needs
+refused-requires : tie.Need-refused-requires
+refused-requires c κs = search needs
 
-returns-2 : tie.Need-returns-2
+returns : tie.Need-returns
 unfolding told after
-returns-2 c =
+returns c =
     let sized = c .before .before in
-    let a = sized .before .before .before .before .before .args in
-    rw (no-room (now (a .names)) (a .plan) (right (sized .before)) (length (now (a .out))) (omega (arith, sized .size-of .ensures .0)))
-    (c .refused2 .ensures, refl)
+    let a = sized .before .before .before .args in
+    rw (no-room (now (a .names)) (a .plan) (right sized) (length (now (a .out))) (omega (arith, sized .size-of .ensures)))
+    (c .refused .ensures, refl)
 
 put-header-requires : tie.Need-put-header-requires
 put-header-requires c κs =
     let sized = c .before .before in
-    let a = sized .before .before .before .before .before .args in
-    let most = plan-most (now (a .names)) (a .plan) (right (sized .before)) in
+    let a = sized .before .before .before .args in
+    let most = plan-most (now (a .names)) (a .plan) (right sized) in
     (omega arith, omega arith, omega arith)
 
 sub-put-fields : tie.Need-sub-put-fields
@@ -107,24 +94,24 @@ part-put-fields-end c = search needs
 put-fields-requires : tie.Need-put-fields-requires
 put-fields-requires c κs =
     let sized = c .before .before .before .before .before .before in
-    (right (sized .before), simp (length-take, length-drop) (omega arith))
+    (right sized, simp (length-take, length-drop) (omega arith))
 
 same-length : tie.Need-same-length
 same-length c = search needs
 
-returns-3 : tie.Need-returns-3
+returns-2 : tie.Need-returns-2
 unfolding told after
-returns-3 c =
+returns-2 c =
     let put = c .before .before in
     let headed = put .before .before .before .before in
     let sized = headed .before .before .before in
-    let a = sized .before .before .before .before .before .args in
+    let a = sized .before .before .before .args in
     let names = now (a .names) in
     let plan = a .plan in
-    let t = right (sized .before) in
+    let t = right sized in
     rw (with-room names plan t (length (now (a .out))) (omega arith)) (
-      rw (length-packet names plan t, sized .size-of .ensures .0),
-      rw (put .put-fields .ensures, headed .put-header .ensures, sized .size-of .ensures .0, ← plan-length names plan t)
+      rw (length-packet names plan t, sized .size-of .ensures),
+      rw (put .put-fields .ensures, headed .put-header .ensures, sized .size-of .ensures, ← plan-length names plan t)
           (part-over 12 (head names plan) (planOctets names plan) (now (a .out)) (length-head names plan)),
     )
 
@@ -132,17 +119,14 @@ pub write-plan-spec : {M : Type 1} → statement M
 write-plan-spec =
     tie.close
     (tie.spec
-    are-right-requires
-    refused-requires
-    returns
     size-of-requires
     add-size
-    refused-requires-2
-    returns-2
+    refused-requires
+    returns
     put-header-requires
     sub-put-fields
     part-put-fields-start
     part-put-fields-end
     put-fields-requires
     same-length
-    returns-3)
+    returns-2)

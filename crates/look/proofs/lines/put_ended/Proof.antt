@@ -8,7 +8,7 @@ use lib.ListN.{length, drop}
 use Rattle.octets.specs.Choice.{front}
 use Rattle.octets.proofs.Buffer.{length-putAt}
 use Rattle.look.specs.Lines.{inLine}
-use Rattle.look.proofs.Laws.Steps.{Upto, upto-none, upto-fits, upto-next, upto-text, upto-left}
+use Rattle.look.proofs.Laws.Steps.{Upto, upto-none, upto-next, upto-text, upto-left}
 use Rattle.look.proofs.lines.put_ended.Statement.{statement}
 use Rattle.look.proofs.lines.put_ended.Tie as tie
 
@@ -38,10 +38,7 @@ part-put-end : tie.Need-part-put-end Inv-loop μ-loop
 part-put-end c = omega arith
 
 put-requires : tie.Need-put-requires Inv-loop μ-loop
-put-requires c κs =
-    let loop = c .before .before .before .loop in
-    let a = c .before .before .before .before .before .before .before .args in
-    upto-fits (a .numbers) (a .piece .now) (a .from) (a .out .now) (a .at) (loop .left) (loop .end) (loop .out) (loop .inv .0) (loop .lf) (loop .inv .1) (omega arith)
+put-requires c κs = search needs
 
 add-left : tie.Need-add-left Inv-loop μ-loop
 add-left c = search needs
@@ -58,7 +55,7 @@ loop-again c =
     let loop = c .before .before .before .before .before .before .before .loop in
     let a = c .before .before .before .before .before .before .before .before .before .before .before .args in (
       upto-next (a .numbers) (a .piece .now) (a .from) (a .out .now) (a .at) (loop .left) (loop .end) (loop .out) (loop .inv .0) (loop .lf) (loop .inv .1) (omega arith)
-          (put .result) (put .last .0) (put .ensures .1) (put .ensures .0),
+          (put .result) (put .last .0) (put .ensures),
       c .line-end2 .ensures,
     )
 
@@ -72,7 +69,7 @@ returns c =
     let u = loop .inv .0 in
     let text = upto-text (a .numbers) (a .piece .now) (a .from) (a .out .now) (a .at) (loop .left) (loop .end) (loop .out) u (loop .lf) (loop .inv .1) (omega arith) in
     let left = upto-left (a .numbers) (a .piece .now) (a .from) (a .out .now) (a .at) (loop .left) (loop .end) (loop .out) u (loop .lf) (loop .inv .1) (omega arith) in
-    (rw text at (u .put), rw text at (u .past), u .inside, left)
+    ((rw text at (u .put), rw text at (u .past)), u .inside, left)
 
 pub put-ended-spec : {M : Type 1} → statement M
 put-ended-spec =

@@ -9,13 +9,13 @@ use mathlib.Core.List.{_++_}
 use lib.ListN.{length, take, drop, length-drop}
 use lib.Seq.{length-take-le, take-all}
 use Rattle.octets.specs.Choice.{front}
-use Rattle.octets.specs.Buffer.{putAt}
 use Rattle.octets.proofs.Buffer.{putAt-nil, length-putAt}
 use Rattle.octets.proofs.Choice.{length-front-le}
+use Rattle.shown.specs.Line.{lineBy}
+use Rattle.shown.specs.Promises.{Put}
 use Rattle.look.specs.Steps.{heldIn, heldOf, keptOf}
-use Rattle.look.specs.Line.{lineBy}
 use Rattle.look.specs.Lines.{inLine}
-use Rattle.look.proofs.Laws.Steps.{held-none, kept-within, kept-prints, lines-none, left-all, left-behind, first-fits, first-put}
+use Rattle.look.proofs.Laws.Steps.{held-none, kept-within, kept-put, lines-none, left-all, left-behind, first-room, first-fits, first-put}
 use Rattle.look.proofs.lines.put_lines.Statement.{statement}
 use Rattle.look.proofs.lines.put_lines.Tie as tie
 
@@ -53,12 +53,15 @@ printed : (c : tie.After-put)
     → let else1 = c .before .before .before .before in
     let a = else1 .before .before .before .before .before .before .args in
     let line = heldIn (a .held) ++ take (else1 .before .before .before .line-end .result) (a .piece .now) in
-    (c .put .last .0 ≡ putAt (a .out .now) (a .at) (lineBy (a .numbers) line)) × (c .put .result ≡ a .at + length (lineBy (a .numbers) line))
+    Put (lineBy (a .numbers) line) (a .out .now) (a .at) (c .put .result) (c .put .last .0)
 printed c =
-    let with = c .before .before .before .before .before in
-    let a = with .before .before .before .before .before .args in
-    let e = kept-prints (a .numbers) (with .with .result) _ (held with) in
-    (rw e at (c .put .ensures .0), rw e at (c .put .ensures .1))
+    let else1 = c .before .before .before .before in
+    let with = else1 .before in
+    let ended = with .before .before in
+    let start = ended .before .before .before in
+    let a = start .args in
+    let fits = first-room (a .numbers) (heldIn (a .held)) (a .piece .now) (ended .line-end .result) (ends ended) (a .out .now) (a .at) (start .pre) (more else1) in
+    kept-put (a .numbers) (with .with .result) _ (a .out .now) (a .at) (c .put .result) (c .put .last .0) (held with) fits (c .put .ensures)
 
 line-end-requires : tie.Need-line-end-requires
 line-end-requires c κs = search needs
@@ -76,8 +79,7 @@ returns c =
     let ended = c .before .before .before in
     let to = ended .line-end .result in
     let all : length (a .piece .now) ≤ to = omega (arith, c .if1 .taken) in (
-      rw (lines-none (heldIn (a .held)) (a .piece .now) to (ends ended) all (a .numbers)) (sym (putAt-nil _ _)),
-      rw (lines-none (heldIn (a .held)) (a .piece .now) to (ends ended) all (a .numbers)) (omega arith),
+      rw (lines-none (heldIn (a .held)) (a .piece .now) to (ends ended) all (a .numbers)) (sym (putAt-nil _ _), omega arith),
       rw (left-all (heldIn (a .held)) (a .piece .now) to (ends ended) all) (rw (take-all to (a .piece .now) all) at (held (c .before))),
     )
 
@@ -88,10 +90,7 @@ slice-aggregate-put : tie.Need-slice-aggregate-put
 slice-aggregate-put c = sym (length-take-le _ _ (kept-within _ _ (held (c .before .before .before .before))))
 
 put-requires : tie.Need-put-requires
-put-requires c κs =
-    let else1 = c .before .before .before in
-    let with = else1 .before in
-    rw (kept-prints _ (with .with .result) _ (held with)) (omega (arith, room else1))
+put-requires c κs = search needs
 
 add-put-ended : tie.Need-add-put-ended
 add-put-ended c = omega (arith, more (c .before .before .before .before .before .before .before))
@@ -150,9 +149,9 @@ returns-2 c =
     let texts =
     first-put (a .numbers) (heldIn (a .held)) piece to (ends found) (a .out .now) (a .at) (start .pre) (more else1)
     (put .put .last .0) (put .put .result) (ended .put-ended .last .0) (ended .put-ended .result .end) (printed put .0) (printed put .1)
-    (ended .put-ended .ensures .0) (ended .put-ended .ensures .1) in
-    let left = ended .put-ended .ensures .3 ∙ sym (left-behind (heldIn (a .held)) piece to (ends found) (more else1)) in
-    (texts .0, texts .1, rw left at (kept c))
+    (ended .put-ended .ensures .0 .0) (ended .put-ended .ensures .0 .1) in
+    let left = ended .put-ended .ensures .2 ∙ sym (left-behind (heldIn (a .held)) piece to (ends found) (more else1)) in
+    (texts, rw left at (kept c))
 
 pub put-lines-spec : {M : Type 1} → statement M
 put-lines-spec =

@@ -5,9 +5,9 @@ use native.Mathlib.Omega.{arith}
 use lib.ListN.{length, getD}
 use borrow.Author.Needs.{needs}
 use borrow.Author.Tests.{eq-eqb, ne-eqb}
-use Rattle.packet.specs.Walk.{fieldAt, valueOf}
+use Rattle.fields.specs.Walk.{fieldAt, valueOf}
+use Rattle.fields.proofs.Laws.Walk.{right-inside}
 use Rattle.packet.specs.Judge.{fits, numberAt}
-use Rattle.packet.proofs.Laws.Walk.{right-inside}
 use Rattle.packet.proofs.judge.fits.Statement.{statement}
 use Rattle.packet.proofs.judge.fits.Tie as tie
 

@@ -6,11 +6,12 @@ use Prim.Native.Nat.{_+_, _-_, _≤_}
 use native.Mathlib.Omega.{arith}
 use lib.ListN.{length, getD}
 use lib.Dec.{T, eqb}
+use borrow.Author.Needs.{needs}
 use borrow.Author.Tests.{eq-eqb, ne-eqb}
 use Rattle.octets.specs.Big.{bigAt}
-use Rattle.packet.specs.Walk.{nextAt, fieldRight, fieldsOf, fieldsFrom, stopFrom}
+use Rattle.fields.specs.Walk.{nextAt, fieldRight, fieldsOf, fieldsFrom, stopFrom}
+use Rattle.fields.proofs.Laws.Walk.{next-size, whole-next, stopFrom-right, stopFrom-whole}
 use Rattle.packet.specs.Judge.{granted}
-use Rattle.packet.proofs.Laws.Walk.{whole-next, stopFrom-right, stopFrom-whole}
 use Rattle.packet.proofs.Laws.Judged.{granted-end, granted-first, granted-next}
 use Rattle.packet.proofs.judge.is_granted.Statement.{statement}
 use Rattle.packet.proofs.judge.is_granted.Tie as tie
@@ -71,23 +72,37 @@ number-at-requires c κs = omega (arith, next-told (c .before .before .before .b
 returns-3 : tie.Need-returns-3 Inv-loop μ-loop
 returns-3 c = rw (first-told (c .before .before .before), eq-eqb _ 2 (c .before .if3 .left), c .number-at .ensures)
 
-size-at-requires : tie.Need-size-at-requires Inv-loop μ-loop
-size-at-requires c κs = omega (arith, next-told (c .before .before))
+add-size-of : tie.Need-add-size-of Inv-loop μ-loop
+add-size-of c = omega (arith, next-told (c .before .before))
+
+shared-slice-read-size-of : tie.Need-shared-slice-read-size-of Inv-loop μ-loop
+shared-slice-read-size-of c = omega (arith, next-told (c .before .before .before))
+
+size-of-requires : tie.Need-size-of-requires Inv-loop μ-loop
+size-of-requires c κs = search needs
+
+-- where the field ends
+size-told : (c : tie.After-size-of Inv-loop μ-loop)
+    → let at = c .before .before .before .before .before .loop .at in
+    at + c .size-of .result ≡ nextAt (start (c .before .before .before .before) .args .packet .now) at
+size-told c =
+    let in-loop = c .before .before .before .before in
+    next-size (start in-loop .args .packet .now) (in-loop .before .loop .at) (c .size-of .result) (c .size-of .ensures)
 
 add-at : tie.Need-add-at Inv-loop μ-loop
-add-at c = omega (arith, next-told (c .before .before .before))
+add-at c = omega (arith, size-told c, next-told (c .before .before .before .before))
 
 loop-less : tie.Need-loop-less Inv-loop μ-loop
-loop-less c = omega (arith, next-told (c .before .before .before))
+loop-less c = omega (arith, size-told c, next-told (c .before .before .before .before))
 
 loop-again : tie.Need-loop-again Inv-loop μ-loop
 loop-again c =
-    let in-loop = c .before .before .before in
+    let in-loop = c .before .before .before .before in
     let a = start in-loop .args in
     let at = in-loop .before .loop .at in
-    rw (c .size-at .ensures) (
+    rw (size-told c) (
       sym (stopFrom-right (a .packet .now) at (right-told in-loop)) ∙ in-loop .before .loop .inv .0,
-      sym (granted-next (a .packet .now) at (a .resultid) (right-told in-loop) (c .before .if2 .left)) ∙ in-loop .before .loop .inv .1,
+      sym (granted-next (a .packet .now) at (a .resultid) (right-told in-loop) (c .before .before .if2 .left)) ∙ in-loop .before .loop .inv .1,
     )
 
 returns-4 : tie.Need-returns-4 Inv-loop μ-loop
@@ -110,7 +125,9 @@ is-granted-spec =
     returns-2
     number-at-requires
     returns-3
-    size-at-requires
+    add-size-of
+    shared-slice-read-size-of
+    size-of-requires
     add-at
     loop-less
     loop-again

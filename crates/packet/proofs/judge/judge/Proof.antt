@@ -7,10 +7,10 @@ use native.Mathlib.Omega.{arith}
 use lib.ListN.{length, getD}
 use borrow.Author.Needs.{needs}
 use borrow.Author.Tests.{not-true, not-false}
+use Rattle.fields.specs.Walk.{nextAt}
+use Rattle.fields.proofs.Laws.Walk.{next-size, whole-next}
 use Rattle.packet.specs.declared.judge.Use.the-variants.{Fills}
-use Rattle.packet.specs.Walk.{nextAt}
 use Rattle.packet.specs.Inner.{openIn}
-use Rattle.packet.proofs.Laws.Walk.{whole-next}
 use Rattle.packet.proofs.Laws.Judged.{Judging, judging-first, judging-right, judging-slot, judging-fills, judging-skips, judged-wrong, judged-repeat, judged-lacking, judged-right}
 use Rattle.packet.proofs.judge.judge.Statement.{statement}
 use Rattle.packet.proofs.judge.judge.Tie as tie
@@ -99,27 +99,41 @@ returns-2 c =
 enum-told-2 : tie.Need-enum-told-2 Inv-loop μ-loop
 enum-told-2 c = search needs
 
-size-at-requires : tie.Need-size-at-requires Inv-loop μ-loop
-size-at-requires c κs = omega (arith, next-told (c .before .before .before))
+add-size-of : tie.Need-add-size-of Inv-loop μ-loop
+add-size-of c = omega (arith, next-told (c .before .before .before))
+
+shared-slice-read-size-of : tie.Need-shared-slice-read-size-of Inv-loop μ-loop
+shared-slice-read-size-of c = omega (arith, next-told (c .before .before .before .before))
+
+size-of-requires : tie.Need-size-of-requires Inv-loop μ-loop
+size-of-requires c κs = search needs
+
+-- where the field ends
+size-told : (c : tie.After-size-of Inv-loop μ-loop)
+    → let at = c .before .before .before .before .before .before .loop .at in
+    at + c .size-of .result ≡ nextAt (start (c .before .before .before .before .before) .args .packet .now) at
+size-told c =
+    let in-loop = c .before .before .before .before .before in
+    next-size (start in-loop .args .packet .now) (in-loop .before .loop .at) (c .size-of .result) (c .size-of .ensures)
 
 add-at : tie.Need-add-at Inv-loop μ-loop
-add-at c = omega (arith, next-told (c .before .before .before .before))
+add-at c = omega (arith, size-told c, next-told (c .before .before .before .before .before))
 
 loop-less : tie.Need-loop-less Inv-loop μ-loop
-loop-less c = omega (arith, next-told (c .before .before .before .before))
+loop-less c = omega (arith, size-told c, next-told (c .before .before .before .before .before))
 
 loop-again : tie.Need-loop-again Inv-loop μ-loop
 loop-again c =
-    let used = c .before .before in
+    let used = c .before .before .before in
     let in-loop = used .before .before in
-    rw (c .size-at .ensures)
+    rw (size-told c)
     (⊎-elim
     (λ w. rw (w .6)
     (judging-fills (in-loop .before .loop .inv) (in-loop .loop-test .taken) (w .1 .given .0 .0) (sym (used .use-of .ensures) ∙ w .1 .given .1)
     (sym (w .4 .ensures) ∙ not-false _ (w .5 .left))))
     (λ w. rw (w .2)
     (judging-skips (in-loop .before .loop .inv) (in-loop .loop-test .taken) (sym (used .use-of .ensures) ∙ w .1 .given .1)))
-    (c .before .match .came))
+    (c .before .before .match .came))
 
 lacks-requires : tie.Need-lacks-requires Inv-loop μ-loop
 lacks-requires c κs = search needs
@@ -154,7 +168,9 @@ judge-spec =
     enum-told
     returns-2
     enum-told-2
-    size-at-requires
+    add-size-of
+    shared-slice-read-size-of
+    size-of-requires
     add-at
     loop-less
     loop-again

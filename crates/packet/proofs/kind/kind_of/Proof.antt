@@ -4,7 +4,7 @@ use mathlib.Core.Path.{_≡_, _∙_}
 use borrow.Author.Needs.{needs}
 use borrow.Author.Tests.{eq-eqb, ne-eqb}
 use native.Mathlib.Omega.{arith}
-use Rattle.packet.specs.Header.{numberIn}
+use Rattle.fields.specs.Header.{numberIn}
 use Rattle.packet.specs.Kind.{kindOf}
 use Rattle.packet.proofs.Laws.Kinds.{kindBy, kindOf-letters, mcv2Kind-lt}
 use Rattle.packet.proofs.kind.kind_of.Statement.{statement}

@@ -1,7 +1,7 @@
 -- `packet::values::head_of` meets its contract: the SSRC and the bit that asks for an Ack, as the definitions read them.
 -- Assumes nothing.
 use borrow.Author.Needs.{needs}
-use Rattle.packet.specs.Header.{ssrcIn, ackAsked}
+use Rattle.fields.specs.Header.{ssrcIn, ackAsked}
 use Rattle.packet.proofs.values.head_of.Statement.{statement}
 use Rattle.packet.proofs.values.head_of.Tie as tie
 

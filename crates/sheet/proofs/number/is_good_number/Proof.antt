@@ -1,47 +1,58 @@
 -- `sheet::number::is_good_number` meets its contract: the number is held against the line's own row.
 -- Assumes nothing.
-use mathlib.Core.Path.{refl, sym}
+use mathlib.Core.Path.{_≡_, sym, _∙_}
 use borrow.Author.Needs.{needs}
+use borrow.Author.Tests.{leb-true, not-true, not-false}
 use native.Mathlib.Omega.{arith}
 use lib.ListN.{length}
-use Rattle.sheet.proofs.Laws.Rules.{greatest-cap}
-use Rattle.sheet.proofs.Laws.Numbers.{goodNumber-low, goodNumber-high, goodNumber-within}
+use lib.Dec.{leb}
+use Rattle.octets.proofs.Choice.{and-true-right}
+use Rattle.sheet.specs.Table.{rowAt}
+use Rattle.sheet.specs.Inner.{within}
+use Rattle.sheet.proofs.Laws.Rules.{greatest-cap, rule-between}
+use Rattle.sheet.proofs.Laws.Numbers.{goodNumber-by}
 use Rattle.sheet.proofs.number.is_good_number.Statement.{statement}
 use Rattle.sheet.proofs.number.is_good_number.Tie as tie
+
+-- the answer on the bounds is that of the definition's row
+judged : (c : tie.After-is-within)
+    → let a = c .before .before .before .args in c .is-within .result ≡ within (length (a .earlier .now)) (a .n)
+judged c = c .is-within .ensures ∙ rule-between (c .before .rule-of .ensures) _
 
 rule-of-requires : tie.Need-rule-of-requires
 rule-of-requires c κs = search needs
 
-returns : tie.Need-returns
-returns c =
-    let rule = c .before .before in
-    sym (goodNumber-low _ _ _ refl (rw (← rule .rule-of .ensures .least) (c .if1 .taken)))
+is-within-requires : tie.Need-is-within-requires
+is-within-requires c κs = search needs
 
-returns-2 : tie.Need-returns-2
-returns-2 c =
-    let rule = c .before .before .before .before in
-    sym (goodNumber-high _ _ _ refl (rw (← rule .rule-of .ensures .greatest) (c .if2 .taken)))
+returns : tie.Need-returns
+returns c = sym (goodNumber-by _ _ ∙ rw (sym (judged (c .before)) ∙ not-true _ (c .if1 .taken)))
 
 cast-is-taken : tie.Need-cast-is-taken
 cast-is-taken c =
-    let rule = c .before .before .before .before in
-    omega (arith, rule .rule-of .ensures .greatest, greatest-cap (length (rule .before .before .args .earlier .now)))
+    let a = c .before .before .before .before .args in
+    let k = length (a .earlier .now) in
+    let r = rowAt k in
+    omega (arith, greatest-cap k, leb-true (a .n) (r .greatest) (and-true-right (leb (r .least) (a .n)) _ (sym (judged (c .before)) ∙ not-false _ (c .if1 .left))))
 
 is-taken-requires : tie.Need-is-taken-requires
 is-taken-requires c κs =
-    let rule = c .before .before .before .before in
-    rw (rule .rule-of .ensures .family) (rule .rule-of .ensures .eldest)
+    let rule = c .before .before .rule-of .ensures in
+    rw (rule .family) (rule .eldest)
 
-returns-3 : tie.Need-returns-3
-returns-3 c =
-    let else2 = c .before in
-    let rule = else2 .before .before .before .before in
-    rw (c .is-taken .ensures, rule .rule-of .ensures .family)
-    (sym (goodNumber-within _ _ _ refl
-    (rw (← rule .rule-of .ensures .least) (else2 .before .before .if1 .left))
-    (rw (← rule .rule-of .ensures .greatest) (else2 .if2 .left))))
+returns-2 : tie.Need-returns-2
+returns-2 c =
+    let else1 = c .before in
+    let rule = else1 .before .before .rule-of .ensures in
+    sym (goodNumber-by _ _ ∙ rw (sym (judged (else1 .before)) ∙ not-false _ (else1 .if1 .left), c .is-taken .ensures, rule .family))
 
 pub is-good-number-spec : {M : Type 1} → statement M
 is-good-number-spec =
     tie.close
-    (tie.spec rule-of-requires returns returns-2 cast-is-taken is-taken-requires returns-3)
+    (tie.spec
+    rule-of-requires
+    is-within-requires
+    returns
+    cast-is-taken
+    is-taken-requires
+    returns-2)

@@ -23,7 +23,7 @@ loop-holds : tie.Need-loop-holds Inv-loop μ-loop
 loop-holds c = (search needs, below-none _)
 
 is-good-row-requires : tie.Need-is-good-row-requires Inv-loop μ-loop
-is-good-row-requires c κs = omega (arith, c .before .before .rows .given .0)
+is-good-row-requires c κs = (omega (arith, c .before .before .rows .given .0), c .before .loop .inv .1)
 
 -- one is not
 returns : tie.Need-returns Inv-loop μ-loop

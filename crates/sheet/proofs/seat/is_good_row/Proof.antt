@@ -1,23 +1,19 @@
--- `sheet::seat::is_good_row` meets its contract: zeros stand behind the row's name, which is new, or where no seat is, nothing.
--- Assumes nothing.
+-- `sheet::seat::is_good_row` meets its contract: as many of the row's first octets as are not zero are a User ID, and no row before it
+-- is the same; where no seat is, none are. Assumes nothing.
 use mathlib.Core.Path.{_≡_, sym, _∙_}
 use mathlib.Core.List.{List, []}
 use Prim.Native.Nat.{ℕ}
 use borrow.Author.Needs.{needs}
 use borrow.Author.Tests.{not-true, not-false}
-use lib.ListN.{getD}
-use Rattle.octets.specs.Choice.{same}
-use Rattle.sheet.specs.Value.{rowOf, nameOf}
-use Rattle.sheet.proofs.Laws.Rows.{take-nameOf, same-rowOf, goodRow-stained, goodRow-unused, goodRow-used}
+use native.Mathlib.Omega.{arith}
+use lib.ListN.{getD, take}
+use lib.Seq.{length-take-le}
+use Rattle.octets.proofs.Choice.{true-T}
+use Rattle.sheet.specs.Judge.{userId}
+use Rattle.sheet.specs.Inner.{filled}
+use Rattle.sheet.proofs.Laws.Filled.{filled-le, unused-filled, used-bad, used-new}
 use Rattle.sheet.proofs.seat.is_good_row.Statement.{statement}
 use Rattle.sheet.proofs.seat.is_good_row.Tie as tie
-
-abbrev row : tie.After-zeros-from → List ℕ
-row c = let a = c .before .before .before .before .args in getD (a .users .now) (a .s) []
-
--- whether the row is its name at fixed width
-clean : (c : tie.After-zeros-from) → same (row c) (rowOf (nameOf (row c))) ≡ c .zeros-from .result
-clean c = same-rowOf (row c) (c .before .before .row2 .given .0) ∙ rw (c .before .name-length .ensures) at (sym (c .zeros-from .ensures))
 
 mul-row : tie.Need-mul-row
 mul-row c = search needs
@@ -25,44 +21,59 @@ mul-row c = search needs
 index-1-row : tie.Need-index-1-row
 index-1-row c = search needs
 
-name-length-requires : tie.Need-name-length-requires
-name-length-requires c κs = search needs
+filled-requires : tie.Need-filled-requires
+filled-requires c κs = search needs
 
-zeros-from-requires : tie.Need-zeros-from-requires
-zeros-from-requires c κs = search needs
+cast-n : tie.Need-cast-n
+cast-n c = search needs
+
+cast-if1 : tie.Need-cast-if1
+cast-if1 c = search needs
 
 returns : tie.Need-returns
 returns c =
-    let a = c .before .before .before .before .before .args in
-    sym (goodRow-stained (a .seats) (a .users .now) (a .s) (clean (c .before) ∙ not-true _ (c .if1 .taken)))
+    let after = c .before in
+    let a = after .before .before .before .args in
+    rw (after .filled .ensures) (sym (unused-filled (a .seats) (a .users .now) (a .s) (after .before .row2 .given .0) (c .if1 .taken)))
 
-cast-if2 : tie.Need-cast-if2
-cast-if2 c = search needs
+slice-aggregate-is-user-id : tie.Need-slice-aggregate-is-user-id
+slice-aggregate-is-user-id c =
+    let after = c .before .before in
+    let a = after .before .before .before .args in
+    let row : List ℕ = getD (a .users .now) (a .s) [] in
+    sym (length-take-le _ row (omega (arith, after .filled .ensures, filled-le row)))
+
+is-user-id-requires : tie.Need-is-user-id-requires
+is-user-id-requires c κs = search needs
+
+-- whether as many octets as are not zero are a User ID
+named : (c : tie.After-is-user-id) →
+    let a = c .before .before .before .before .before .before .args in
+    let row = getD (a .users .now) (a .s) [] in
+    c .is-user-id .result ≡ userId (take (filled row) row)
+named c = c .is-user-id .ensures ∙ rw (c .before .before .before .filled .ensures)
 
 returns-2 : tie.Need-returns-2
 returns-2 c =
-    let after = c .before .before in
-    let a = after .before .before .before .before .args in
-    rw (after .before .name-length .ensures)
-    (sym (goodRow-unused (a .seats) (a .users .now) (a .s) (clean after ∙ not-false _ (c .before .if1 .left)) (c .if2 .taken)))
+    let else1 = c .before .before .before in
+    let after = else1 .before in
+    let a = after .before .before .before .args in
+    sym (used-bad (a .seats) (a .users .now) (a .s) (after .before .row2 .given .0) (else1 .if1 .left)
+    (sym (named (c .before)) ∙ not-true _ (c .if2 .taken)))
 
-cast-is-new-name : tie.Need-cast-is-new-name
-cast-is-new-name c = search needs
-
-slice-aggregate-is-new-name : tie.Need-slice-aggregate-is-new-name
-slice-aggregate-is-new-name c = rw (c .before .before .before .before .name-length .ensures, take-nameOf)
-
-is-new-name-requires : tie.Need-is-new-name-requires
-is-new-name-requires c κs = search needs
+is-new-row-requires : tie.Need-is-new-row-requires
+is-new-row-requires c κs = search needs
 
 returns-3 : tie.Need-returns-3
 returns-3 c =
-    let else1 = c .before .before .before in
+    let else2 = c .before in
+    let else1 = else2 .before .before .before in
     let after = else1 .before in
-    let a = after .before .before .before .before .args in
-    c .is-new-name .ensures
-    ∙ (rw (after .before .name-length .ensures, take-nameOf)
-    (sym (goodRow-used (a .seats) (a .users .now) (a .s) (clean after ∙ not-false _ (else1 .if1 .left)) (c .before .before .if2 .left))))
+    let start = after .before .before .before in
+    let a = start .args in
+    used-new (a .seats) (a .users .now) (a .s) (after .before .row2 .given .0) (else1 .if1 .left)
+    (true-T _ (sym (named (else2 .before)) ∙ not-false _ (else2 .if2 .left)))
+    (start .pre .1) _ (c .is-new-row .ensures)
 
 pub is-good-row-spec : {M : Type 1} → statement M
 is-good-row-spec =
@@ -70,12 +81,12 @@ is-good-row-spec =
     (tie.spec
     mul-row
     index-1-row
-    name-length-requires
-    zeros-from-requires
+    filled-requires
+    cast-n
+    cast-if1
     returns
-    cast-if2
+    slice-aggregate-is-user-id
+    is-user-id-requires
     returns-2
-    cast-is-new-name
-    slice-aggregate-is-new-name
-    is-new-name-requires
+    is-new-row-requires
     returns-3)

@@ -1,13 +1,12 @@
 -- `sheet::table::rule_of` meets its contract: each arm's row is the definition's, by one test that is computed there.
 -- Assumes nothing.
 use Rattle.sheet.specs.Table.{table, seatRow, numberLines, rowAt}
-use Rattle.sheet.specs.Inner.{keys}
 use Rattle.sheet.proofs.Laws.Rules.{right, other, rule-at, rule-seat}
 use Rattle.sheet.proofs.table.rule_of.Statement.{statement}
 use Rattle.sheet.proofs.table.rule_of.Tie as tie
 
 pub rule-of-spec : {M : Type 1} → statement M
-unfolding right other rowAt table seatRow numberLines keys
+unfolding right other rowAt table seatRow numberLines
 rule-of-spec =
     tie.close
     (tie.spec

@@ -10,7 +10,7 @@ use Rattle.octets.specs.Big.{bigOf}
 use Rattle.octets.specs.Buffer.{over, putAt}
 use Rattle.octets.proofs.Big.{length-bigOf}
 use Rattle.octets.proofs.Buffer.{over-putAt, putAt-next, putAt-pair}
-use Rattle.writing.specs.Packet.{header}
+use Rattle.plan.specs.Packet.{header}
 use Rattle.writing.proofs.front.put_header.Statement.{statement}
 use Rattle.writing.proofs.front.put_header.Tie as tie
 

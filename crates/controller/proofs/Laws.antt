@@ -1,6 +1,0 @@
-pub mod Found
-pub mod Heard
-pub mod Answers
-pub mod Seats
-pub mod Events
-pub mod Packets

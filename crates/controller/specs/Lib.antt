@@ -1,5 +1,0 @@
-pub mod Event
-pub mod Sending
-pub mod Inner
-pub mod Promises
-pub mod Claims

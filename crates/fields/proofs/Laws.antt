@@ -1,0 +1,9 @@
+pub mod Sized
+pub mod Checks
+pub mod Walk
+pub mod Fields
+pub mod Step
+pub mod Layouts
+pub mod Called
+pub mod Owned
+pub mod Reader

@@ -1,0 +1,6 @@
+pub mod Meaning
+pub mod Packet
+pub mod Plan
+pub mod Inner
+pub mod Promises
+pub mod Claims

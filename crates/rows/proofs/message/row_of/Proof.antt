@@ -1,0 +1,140 @@
+-- `rows::message::row_of` meets its contract: the row of each kind. Assumes nothing.
+use borrow.Author.Needs.{needs}
+use Rattle.rows.specs.Rows.{columns, withHeld, withAll, messageRow}
+use Rattle.rows.proofs.Laws.Messages.{row-request, row-response, row-end-request, row-end}
+use Rattle.rows.proofs.message.row_of.Statement.{statement}
+use Rattle.rows.proofs.message.row_of.Tie as tie
+
+enum-known-message : tie.Need-enum-known-message
+enum-known-message c = search needs
+
+indicated-requires : tie.Need-indicated-requires
+indicated-requires c κs = search needs
+
+row-with-requires : tie.Need-row-with-requires
+row-with-requires c κs = search needs
+
+enum-known-message-2 : tie.Need-enum-known-message-2
+enum-known-message-2 c = search needs
+
+result-of-requires : tie.Need-result-of-requires
+result-of-requires c κs = search needs
+
+cause-of-requires : tie.Need-cause-of-requires
+cause-of-requires c κs = search needs
+
+indicated-requires-2 : tie.Need-indicated-requires-2
+indicated-requires-2 c κs = search needs
+
+row-with-requires-2 : tie.Need-row-with-requires-2
+row-with-requires-2 c κs = search needs
+
+enum-known-message-3 : tie.Need-enum-known-message-3
+enum-known-message-3 c = search needs
+
+indicated-requires-3 : tie.Need-indicated-requires-3
+indicated-requires-3 c κs = search needs
+
+row-with-requires-3 : tie.Need-row-with-requires-3
+row-with-requires-3 c κs = search needs
+
+enum-known-message-4 : tie.Need-enum-known-message-4
+enum-known-message-4 c = search needs
+
+row-with-requires-4 : tie.Need-row-with-requires-4
+row-with-requires-4 c κs = search needs
+
+enum-known-message-5 : tie.Need-enum-known-message-5
+enum-known-message-5 c = search needs
+
+cast-row-with : tie.Need-cast-row-with
+cast-row-with c = search needs
+
+indicated-requires-4 : tie.Need-indicated-requires-4
+indicated-requires-4 c κs = search needs
+
+row-with-requires-5 : tie.Need-row-with-requires-5
+row-with-requires-5 c κs = search needs
+
+enum-known-message-6 : tie.Need-enum-known-message-6
+enum-known-message-6 c = search needs
+
+row-with-requires-6 : tie.Need-row-with-requires-6
+row-with-requires-6 c κs = search needs
+
+enum-known-message-7 : tie.Need-enum-known-message-7
+enum-known-message-7 c = search needs
+
+cast-row-with-2 : tie.Need-cast-row-with-2
+cast-row-with-2 c = search needs
+
+cast-row-with-3 : tie.Need-cast-row-with-3
+cast-row-with-3 c = search needs
+
+row-with-requires-7 : tie.Need-row-with-requires-7
+row-with-requires-7 c κs = search needs
+
+returns : tie.Need-returns
+returns c =
+    rw (c .row-with .ensures, c .before .indicated .ensures, c .before .before .before .message .given .1) (row-request _ _ _ (c .before .before .before .message .given .0 .1 .1 .1 .0))
+
+returns-2 : tie.Need-returns-2
+returns-2 c =
+    let ruled = c .before .before in
+    rw (c .row-with2 .ensures, c .before .indicated2 .ensures, ruled .cause-of .ensures, ruled .before .result-of .ensures, ruled .before .before .before .message2 .given .1)
+    (row-response _ (ruled .before .before .before .message2 .given .0 .1 .0) (ruled .before .before .before .message2 .given .0 .1 .1 .0))
+
+returns-3 : tie.Need-returns-3
+returns-3 c =
+    rw (c .row-with3 .ensures, c .before .indicated3 .ensures, c .before .before .before .message3 .given .1) (row-end-request _ _ (c .before .before .before .message3 .given .0 .1 .1 .0))
+
+returns-4 : tie.Need-returns-4
+unfolding messageRow columns withAll withHeld
+returns-4 c = rw (c .row-with4 .ensures, c .before .before .message4 .given .1)
+
+returns-5 : tie.Need-returns-5
+returns-5 c =
+    rw (c .row-with5 .ensures, c .before .indicated4 .ensures, c .before .before .before .message5 .given .1) (row-end _ _ (c .before .before .before .message5 .given .0 .1 .1 .0))
+
+returns-6 : tie.Need-returns-6
+unfolding messageRow columns withAll
+returns-6 c = rw (c .row-with6 .ensures, c .before .before .message6 .given .1)
+
+returns-7 : tie.Need-returns-7
+unfolding messageRow columns withAll withHeld
+returns-7 c = rw (c .row-with7 .ensures, c .before .before .message7 .given .1)
+
+pub row-of-spec : {M : Type 1} → statement M
+row-of-spec =
+    tie.close
+    (tie.spec
+    enum-known-message
+    indicated-requires
+    row-with-requires
+    enum-known-message-2
+    result-of-requires
+    cause-of-requires
+    indicated-requires-2
+    row-with-requires-2
+    enum-known-message-3
+    indicated-requires-3
+    row-with-requires-3
+    enum-known-message-4
+    row-with-requires-4
+    enum-known-message-5
+    cast-row-with
+    indicated-requires-4
+    row-with-requires-5
+    enum-known-message-6
+    row-with-requires-6
+    enum-known-message-7
+    cast-row-with-2
+    cast-row-with-3
+    row-with-requires-7
+    returns
+    returns-2
+    returns-3
+    returns-4
+    returns-5
+    returns-6
+    returns-7)

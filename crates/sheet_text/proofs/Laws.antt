@@ -1,0 +1,9 @@
+pub mod Keys
+pub mod Lines
+pub mod LineAt
+pub mod Readings
+pub mod Named
+pub mod Judgement
+pub mod Scanned
+pub mod Claims
+pub mod Decides

@@ -1,0 +1,14 @@
+-- `sheet_text::line::is_digit` meets its contract: the two tests are the definition's, one after the other.
+-- Assumes nothing.
+use borrow.Author.Tests.{lt-leb, le-leb}
+use Rattle.sheet_text.proofs.line.is_digit.Statement.{statement}
+use Rattle.sheet_text.proofs.line.is_digit.Tie as tie
+
+returns : tie.Need-returns
+returns c = rw (lt-leb _ _ (c .if1 .taken))
+
+returns-2 : tie.Need-returns-2
+returns-2 c = rw (le-leb _ _ (c .if1 .left))
+
+pub is-digit-spec : {M : Type 1} → statement M
+is-digit-spec = tie.close (tie.spec returns returns-2)

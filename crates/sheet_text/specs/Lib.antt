@@ -1,0 +1,5 @@
+pub mod Line
+pub mod Reading
+pub mod Inner
+pub mod Promises
+pub mod Claims

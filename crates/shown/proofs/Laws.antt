@@ -1,0 +1,6 @@
+pub mod Hex
+pub mod Packets
+pub mod Line
+pub mod Values
+pub mod Widths
+pub mod Fits

@@ -1,0 +1,41 @@
+-- What the inner functions say of the values that they look at. The public promises rest on these, and nobody need believe them: each is only a
+-- step of a proof. Assumes nothing.
+use Prim.Native.Nat.{ℕ}
+use mathlib.Core.List.{List, [], _∷_, _++_, map}
+use lib.ListN.{getD, drop}
+use Rattle.sheet_text.specs.Line.{lf}
+use Rattle.packet.specs.Judge.{Held, absent, given, named}
+use Rattle.packet.specs.Reading.{Outcome, reads, refused}
+use Rattle.shown.specs.declared.values.Form.{Form}
+use Rattle.shown.specs.declared.values.Form.the-variants.{Absent, Given, Named}
+use Rattle.shown.specs.declared.values.Value.{Value}
+use Rattle.shown.specs.Line.{tenOf, valueText, labels, labelled}
+
+abbrev pub valueSaid : Value → Held
+valueSaid v = at (v .form)
+  where
+    at : Form → Held
+    at Absent = absent
+    at Given = given (v .n)
+    at Named = named (v .n) (v .len)
+
+-- the ten values of what was read
+unfoldable pub tenSaid : Outcome → List Held
+tenSaid (reads kind ssrc ack values) = tenOf kind ssrc ack values
+tenSaid (refused number at) = []
+
+-- their texts
+abbrev pub textsOf : List ℕ → List Value → List (List ℕ)
+textsOf p ten = map (valueText p) (map valueSaid ten)
+
+-- the name and the text of the k-th
+unfoldable pub entryText : List ℕ → List Value → ℕ → List ℕ
+entryText p ten k = getD labels k [] ++ getD (textsOf p ten) k []
+
+-- those from the k-th on
+unfoldable pub valuesFrom : List ℕ → List Value → ℕ → List ℕ
+valuesFrom p ten k = labelled (drop k labels) (drop k (textsOf p ten))
+
+-- all of them, and an LF
+unfoldable pub tenLine : List ℕ → List Value → List ℕ
+tenLine p ten = valuesFrom p ten 0 ++ (lf ∷ [])

@@ -1,0 +1,95 @@
+-- What each public function promises, one predicate a function, NAME≡: the equations that its answer and its lent buffer afterwards
+-- meet, for every input. Beside it, NAME-once: no second answer and no second buffer meet it. Assumes nothing.
+use mathlib.Core.Path.{_≡_}
+use Prim.Native.Nat.{ℕ, _+_, min}
+use mathlib.Core.List.{List, []}
+use mathlib.Core.Option.{some}
+use lib.ListN.{length}
+use Rattle.octets.specs.Buffer.{putAt}
+use Rattle.octets.specs.Promises.{one-value}
+use Rattle.sheet.specs.declared.Refusal.{Refusal}
+use Rattle.packet.specs.declared.Numbers.{Numbers}
+use Rattle.packet.specs.declared.Message.{Message}
+use Rattle.packet.specs.Message.{messageSaid}
+use Rattle.packet.specs.Reading.{refused}
+use Rattle.writing.specs.declared.Writing.{Writing}
+use Rattle.writing.specs.Writing.{roomFor, Answered}
+use Rattle.writing.specs.Promises.{answered-once}
+use Rattle.shown.specs.declared.hex.Packet.{Packet}
+use Rattle.shown.specs.Line.{packetIn, packetAs, textOf, lineBy, sheetLine, lineRoom, fitting}
+
+-- ---- text put into the front of a buffer
+
+-- "output shorter": the text whole, or 11 and nothing
+abbrev pub Printed : List ℕ → List ℕ → Writing → List ℕ → Type 0
+Printed text out r now = Answered (roomFor (length out) (some text)) out r now
+
+printed-once : (text out : List ℕ) (x y : Writing) (now other : List ℕ) → Printed text out x now → Printed text out y other → (x ≡ y) × (now ≡ other)
+printed-once text out x y now other e f = answered-once (roomFor (length out) (some text)) out x y now other e f
+
+-- the ten values of a message
+abbrev pub message≡ : Message → List ℕ → List ℕ → Writing → List ℕ → Type 0
+message≡ m p out r now = Printed (textOf p (messageSaid m)) out r now
+
+pub message-once : (m : Message) (p out : List ℕ) (x y : Writing) (now other : List ℕ)
+    → message≡ m p out x now → message≡ m p out y other → (x ≡ y) × (now ≡ other)
+message-once m p out x y now other e f = printed-once (textOf p (messageSaid m)) out x y now other e f
+
+-- a refusal
+abbrev pub refusal≡ : Refusal → List ℕ → Writing → List ℕ → Type 0
+refusal≡ refusal out r now = Printed (textOf [] (refused (refusal .number) (refusal .at))) out r now
+
+pub refusal-once : (refusal : Refusal) (out : List ℕ) (x y : Writing) (now other : List ℕ)
+    → refusal≡ refusal out x now → refusal≡ refusal out y other → (x ≡ y) × (now ≡ other)
+refusal-once refusal out x y now other e f = printed-once (textOf [] (refused (refusal .number) (refusal .at))) out x y now other e f
+
+-- what is printed for a line
+abbrev pub line≡ : Numbers → List ℕ → List ℕ → Writing → List ℕ → Type 0
+line≡ n line out r now = Printed (lineBy n line) out r now
+
+pub line-once : (n : Numbers) (line out : List ℕ) (x y : Writing) (now other : List ℕ)
+    → line≡ n line out x now → line≡ n line out y other → (x ≡ y) × (now ≡ other)
+line-once n line out x y now other e f = printed-once (lineBy n line) out x y now other e f
+
+-- ---- text put at a place of a buffer
+
+-- the text, and the place past it
+abbrev pub Put : List ℕ → List ℕ → ℕ → ℕ → List ℕ → Type 0
+Put text out at r now = (now ≡ putAt out at text) × (r ≡ at + length text)
+
+one-put : (text out : List ℕ) (at : ℕ) (x y : ℕ) (now other : List ℕ) → Put text out at x now → Put text out at y other → (x ≡ y) × (now ≡ other)
+one-put text out at x y now other e f = (one-value x y (e .1) (f .1), one-value now other (e .0) (f .0))
+
+-- what is printed for a line
+abbrev pub put≡ : Numbers → List ℕ → List ℕ → ℕ → ℕ → List ℕ → Type 0
+put≡ n line out at r now = Put (fitting (lineRoom line) (length out) at (lineBy n line)) out at r now
+
+pub put-once : (n : Numbers) (line out : List ℕ) (at : ℕ) (x y : ℕ) (now other : List ℕ)
+    → put≡ n line out at x now → put≡ n line out at y other → (x ≡ y) × (now ≡ other)
+put-once n line out at x y now other e f = one-put (fitting (lineRoom line) (length out) at (lineBy n line)) out at x y now other e f
+
+-- what is printed for a refused sheet
+abbrev pub put-sheet≡ : ℕ → List ℕ → ℕ → ℕ → List ℕ → Type 0
+put-sheet≡ line out at r now = Put (fitting (length (sheetLine line)) (length out) at (sheetLine line)) out at r now
+
+pub put-sheet-once : (line : ℕ) (out : List ℕ) (at : ℕ) (x y : ℕ) (now other : List ℕ)
+    → put-sheet≡ line out at x now → put-sheet≡ line out at y other → (x ≡ y) × (now ≡ other)
+put-sheet-once line out at x y now other e f = one-put (fitting (length (sheetLine line)) (length out) at (sheetLine line)) out at x y now other e f
+
+-- ---- hex
+
+-- the packet on a line, or none
+abbrev pub packet-in≡ : List ℕ → Packet → Type 0
+packet-in≡ line r = r ≡ packetAs (packetIn line)
+
+pub packet-in-once : (line : List ℕ) (x y : Packet) → packet-in≡ line x → packet-in≡ line y → x ≡ y
+packet-in-once line x y p q = one-value x y p q
+
+-- ---- numbers
+
+-- the lesser of two
+abbrev pub least≡ : ℕ → ℕ → ℕ → Type 0
+least≡ m n r = r ≡ min m n
+
+pub least-once : (m n : ℕ) (x y : ℕ) → least≡ m n x → least≡ m n y → x ≡ y
+least-once m n x y p q = one-value x y p q

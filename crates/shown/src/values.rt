@@ -1,0 +1,331 @@
+// The ten values of a message, and their text (document 01, "Bench program").
+use super::decimal;
+use super::least;
+use packet::Head;
+use packet::Indicator;
+use packet::Message;
+use packet::Name;
+use packet::Verdict;
+ghost use mathlib.Core.Path.{_≡_};
+ghost use Prim.Native.Nat.{_+_, _-_, _≤_, _<_};
+ghost use mathlib.Core.List.{[], _∷_, map};
+ghost use lib.ListN.{length, getD, take, drop};
+ghost use Rattle.octets.specs.Choice.{pick};
+ghost use Rattle.packet.specs.Judge.{Held};
+ghost use Rattle.packet.specs.Message.{nameSaid, indicatorSaid, resultSaid, causeSaid, messageSaid};
+ghost use Rattle.shown.specs.Line.{valueText, labels};
+ghost use Rattle.shown.specs.Inner.{valueSaid, tenSaid, entryText, valuesFrom};
+ghost use Rattle.shown.specs.Promises.{Put};
+
+// Nothing, a number, or a name by its place in the packet and its length.
+pub enum Form {
+    Absent,
+    Given,
+    Named,
+}
+
+pub struct Value {
+    form: Form,
+    n: u32,
+    len: u32,
+}
+
+// How many values a message has.
+const TEN: usize = 10;
+
+pub type Ten = [Value; TEN];
+
+fn absent() -> Value
+    ensures { λ r. ⌜ valueSaid r ≡ Held.absent ⌝ }
+{
+    Value {
+        form: Form::Absent,
+        n: 0,
+        len: 0,
+    }
+}
+
+fn given(n: u32) -> Value
+    ensures { λ r. ⌜ valueSaid r ≡ Held.given n ⌝ }
+{
+    Value {
+        form: Form::Given,
+        n,
+        len: 0,
+    }
+}
+
+fn named(name: Name) -> Value
+    ensures { λ r. ⌜ valueSaid r ≡ nameSaid name ⌝ }
+{
+    Value {
+        form: Form::Named,
+        n: name.at,
+        len: name.len,
+    }
+}
+
+fn indicated(indicator: Indicator) -> Value
+    ensures { λ r. ⌜ valueSaid r ≡ indicatorSaid indicator ⌝ }
+{
+    match indicator {
+        Indicator::Absent => absent(),
+        Indicator::Given(n) => given(n as u32),
+    }
+}
+
+fn result_of(verdict: Verdict) -> Value
+    ensures { λ r. ⌜ valueSaid r ≡ resultSaid verdict ⌝ }
+{
+    match verdict {
+        Verdict::Granted => given(1),
+        Verdict::Rejected(_) => given(0),
+    }
+}
+
+fn cause_of(verdict: Verdict) -> Value
+    ensures { λ r. ⌜ valueSaid r ≡ causeSaid verdict ⌝ }
+{
+    match verdict {
+        Verdict::Granted => absent(),
+        Verdict::Rejected(cause) => given(cause as u32),
+    }
+}
+
+// "kind, SSRC, Ack asked (0 or 1)", and seven values of fields.
+fn ten(
+    kind: u32,
+    head: Head,
+    user: Value,
+    transmitter: Value,
+    result: Value,
+    cause: Value,
+    indicator: Value,
+    origin: Value,
+    about: Value,
+) -> Ten
+    ensures { λ r. ⌜ map valueSaid r ≡ Held.given kind ∷ Held.given (head .ssrc) ∷ Held.given (pick (head .ack) 1 0) ∷ valueSaid user
+        ∷ valueSaid transmitter ∷ valueSaid result ∷ valueSaid cause ∷ valueSaid indicator ∷ valueSaid origin ∷ valueSaid about ∷ [] ⌝ }
+{
+    let ack = if head.ack { 1 } else { 0 };
+    [
+        given(kind),
+        given(head.ssrc),
+        given(ack),
+        user,
+        transmitter,
+        result,
+        cause,
+        indicator,
+        origin,
+        about,
+    ]
+}
+
+// The ten values of a message.
+pub fn ten_of(message: Message) -> Ten
+    ensures { λ r. ⌜ map valueSaid r ≡ tenSaid (messageSaid message) ⌝ }
+{
+    let no = absent();
+    match message {
+        Message::ReceiveRequest {
+            head,
+            user,
+            source,
+            indicator,
+        } => ten(
+            1,
+            head,
+            named(user),
+            named(source),
+            no,
+            no,
+            indicated(indicator),
+            no,
+            no,
+        ),
+        Message::ReceiveResponse {
+            head,
+            verdict,
+            indicator,
+        } => ten(
+            2,
+            head,
+            no,
+            no,
+            result_of(verdict),
+            cause_of(verdict),
+            indicated(indicator),
+            no,
+            no,
+        ),
+        Message::EndRequest {
+            head,
+            transmitter,
+            indicator,
+        } => ten(
+            3,
+            head,
+            no,
+            named(transmitter),
+            no,
+            no,
+            indicated(indicator),
+            no,
+            no,
+        ),
+        Message::EndResponse { head, transmitter } => {
+            ten(4, head, no, named(transmitter), no, no, no, no, no)
+        }
+        Message::TransmissionEnd {
+            head,
+            cause,
+            indicator,
+        } => ten(
+            5,
+            head,
+            no,
+            no,
+            no,
+            given(cause as u32),
+            indicated(indicator),
+            no,
+            no,
+        ),
+        Message::TransmissionEndResponse { head } => ten(6, head, no, no, no, no, no, no, no),
+        Message::Ack {
+            head,
+            source,
+            about,
+        } => ten(
+            7,
+            head,
+            no,
+            no,
+            no,
+            no,
+            no,
+            given(source as u32),
+            given(about as u32),
+        ),
+    }
+}
+
+// The octets of a packet that a value names.
+fn name_in(packet: &[u8], at: u32, len: u32) -> &[u8]
+    ensures { λ r. ⌜ now r ≡ take len (drop at (now (packet .entry))) ⌝ }
+{
+    let from = least(at as usize, packet.len());
+    let end = from + least(len as usize, packet.len() - from);
+    &packet[from..end]
+}
+
+// How many octets a value's text has.
+fn value_length(value: Value, packet: &[u8]) -> usize
+    ensures { λ r. ⌜ (r ≡ length (valueText (now (packet .entry)) (valueSaid value))) × (r < 4294967296) ⌝ }
+{
+    let form = value.form;
+    match form {
+        Form::Absent => 1,
+        Form::Given => decimal::length_of(value.n),
+        Form::Named => name_in(packet, value.n, value.len).len(),
+    }
+}
+
+// Puts a value's text at a place, and gives the place past it.
+fn put_value(out: &mut [u8], at: usize, value: Value, packet: &[u8]) -> usize
+    requires { ⌜ at + length (valueText (now packet) (valueSaid value)) ≤ length (now out) ⌝ }
+    ensures { λ r. ⌜ Put (valueText (now (packet .entry)) (valueSaid value)) (now (out .entry)) at r (now (out .exit)) ⌝ }
+{
+    let form = value.form;
+    match form {
+        Form::Absent => {
+            out[at] = b'-';
+            at + 1
+        }
+        Form::Given => decimal::put(out, at, value.n),
+        Form::Named => {
+            let name = name_in(packet, value.n, value.len);
+            octets::put_octets(out, at, name);
+            at + name.len()
+        }
+    }
+}
+
+// The most octets of a name that a value is printed under.
+const WIDEST: usize = 11;
+
+// The names, a space between two, each filled up with spaces: by value they are cheaper to check than as slices, and compile to the same.
+const KIND: [u8; WIDEST] = *b"kind=      ";
+
+const SSRC: [u8; WIDEST] = *b" ssrc=     ";
+
+const ACK: [u8; WIDEST] = *b" ack=      ";
+
+const USER: [u8; WIDEST] = *b" user=     ";
+
+const NAMED: [u8; WIDEST] = *b" named=    ";
+
+const RESULT: [u8; WIDEST] = *b" result=   ";
+
+const CAUSE: [u8; WIDEST] = *b" cause=    ";
+
+const INDICATOR: [u8; WIDEST] = *b" indicator=";
+
+const ORIGIN: [u8; WIDEST] = *b" origin=   ";
+
+const ABOUT: [u8; WIDEST] = *b" about=    ";
+
+// How many octets the names have.
+const NAMES: usize = 70;
+
+// Puts the k-th name, of so many octets, and the k-th value's text at a place, and gives the place past them. There is room for the values from
+// the k-th on, and then for those behind it.
+fn put_entry(
+    out: &mut [u8],
+    at: usize,
+    name: [u8; WIDEST],
+    len: usize,
+    ten: Ten,
+    k: usize,
+    packet: &[u8],
+) -> usize
+    requires { ⌜ (k < 10) × (len ≤ 11) × (take len name ≡ getD labels k []) × (at + length (valuesFrom (now packet) ten k) ≤ length (now out)) ⌝ }
+    ensures { λ r. ⌜ Put (entryText (now (packet .entry)) ten k) (now (out .entry)) at r (now (out .exit))
+        × (r + length (valuesFrom (now (packet .entry)) ten (k + 1)) ≤ length (now (out .exit))) ⌝ }
+{
+    octets::put_octets(out, at, &name[..len]);
+    put_value(out, at + len, ten[k], packet)
+}
+
+// How many octets the values' text has: of ten values of less than 2^32 octets each and their names.
+pub fn length_of(ten: Ten, packet: &[u8]) -> usize
+    ensures { λ r. ⌜ (r ≡ length (valuesFrom (now (packet .entry)) ten 0)) × (r < 42949673030) ⌝ }
+{
+    let mut length = NAMES;
+    let mut k = 0;
+    while k < TEN {
+        length += value_length(ten[k], packet);
+        k += 1;
+    }
+    length
+}
+
+// Puts the values' text at a place, and gives the place past it. Each name is a constant, which is faster than a table of them.
+pub fn put(out: &mut [u8], at: usize, ten: Ten, packet: &[u8]) -> usize
+    requires { ⌜ at + length (valuesFrom (now packet) ten 0) ≤ length (now out) ⌝ }
+    ensures { λ r. ⌜ Put (valuesFrom (now (packet .entry)) ten 0) (now (out .entry)) at r (now (out .exit)) ⌝ }
+{
+    let mut end = at;
+    end = put_entry(out, end, KIND, 5, ten, 0, packet);
+    end = put_entry(out, end, SSRC, 6, ten, 1, packet);
+    end = put_entry(out, end, ACK, 5, ten, 2, packet);
+    end = put_entry(out, end, USER, 6, ten, 3, packet);
+    end = put_entry(out, end, NAMED, 7, ten, 4, packet);
+    end = put_entry(out, end, RESULT, 8, ten, 5, packet);
+    end = put_entry(out, end, CAUSE, 7, ten, 6, packet);
+    end = put_entry(out, end, INDICATOR, 11, ten, 7, packet);
+    end = put_entry(out, end, ORIGIN, 8, ten, 8, packet);
+    end = put_entry(out, end, ABOUT, 7, ten, 9, packet);
+    end
+}
