@@ -1,4 +1,4 @@
--- The fields of a packet and the walk over them (document 01, "Packet"; TS 24.581, 9.2): "ID octet, length octet, value, then
+-- The fields of a packet and the walk over them (document 01, "Packet"; TS 24.581, 9.1.3): "ID octet, length octet, value, then
 -- padding to the next word, not counted in the length". Stricter than TS 24.581: an ID of 192 or more is refused (house), and
 -- padding that is not zero. Assumes nothing.
 use Prim.Native.Nat.{ℕ, zero, suc, _+_, _-_, _*_, _/_, _%_}

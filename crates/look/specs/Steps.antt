@@ -1,5 +1,6 @@
 -- What `mcvlook` prints piece by piece: what is kept between two pieces of the input, and what each piece prints. That any pieces print what
--- `lookOf` says of the whole is claimed in Claims.antt, so that of this page a reader need believe `roomAsked` alone. Assumes nothing.
+-- `lookOf` says of the whole is claimed in Claims.antt, so that of this page a reader need believe no more than the claims name: `roomAsked`, `lastOf`,
+-- `isRefused` and `stateOf`. Assumes nothing.
 use Prim.Native.Nat.{ℕ, _+_, _*_}
 use mathlib.Core.Bool.{Bool, true, false}
 use mathlib.Core.List.{List, [], _∷_, _++_, map, flatten}

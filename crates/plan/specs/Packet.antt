@@ -1,4 +1,4 @@
--- The packet of a meaning (document 01, "Packet": "fields, in the order written"; RFC 3550, 6.7; TS 24.581, 9.2), where it has
+-- The packet of a meaning (document 01, "Packet": "fields, in the order written"; RFC 3550, 6.7; TS 24.581, 9.1.3 and 9.2), where it has
 -- one. Assumes nothing.
 use Prim.Native.Nat.{ℕ, _+_, _-_, _*_, _/_, _^_}
 use mathlib.Core.Bool.{Bool, true, false, _&&_}

@@ -41,7 +41,7 @@ pub fn by_user(seats: u32, users: &Users, name: &[u8]) -> Found
             return Found::Nobody;
         }
         let i = s as usize;
-        if has_name(&rows[i][..], name) {
+        if has_name(&rows[i][..], &name[..]) {
             return Found::Seat(s);
         }
         s += 1;

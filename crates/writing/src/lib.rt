@@ -52,7 +52,7 @@ pub fn write_by(numbers: &[u32], message: Message, names: &[u8], out: &mut [u8])
     ensures { λ r. ⌜ write-by≡ (now (numbers .entry)) message (now (names .entry)) (now (out .entry)) r (now (out .exit)) ⌝ }
 {
     let lent = &names[..];
-    match plan_of(numbers, message, lent) {
+    match plan_of(&numbers[..], message, lent) {
         Planned::Packet(plan) => write_plan(plan, lent, out),
         Planned::Refused(number) => refused(number),
     }
