@@ -12,6 +12,9 @@ PUSHED = {
 }
 CALLED = {"x86_64": r"\t(?:callq|jmp)\t(\"?[A-Za-z_][\w:.]*\"?)", "aarch64": r"\tbl?\t(\"?[A-Za-z_][\w:.]*\"?)"}
 RETURN = {"x86_64": 8, "aarch64": 0}
+# every call has less than this, but for the one that lays out tables of User IDs
+LIMIT = 256
+UNBOUNDED = ("mcv_sheet",)
 # what the archive leaves to the host, whose stack is not counted
 LIBRARY = ("memcpy", "memset", "memmove", "memcmp", "bcmp", "strlen")
 
@@ -50,6 +53,11 @@ def depths(work, archive, module):
         stacks[arch] = frames(arch, (work / "out.s").read_text())
     exported = re.findall(r" T (\w+)", subprocess.check_output(["nm", archive], text=True))
     return {name: {arch: depth(arch, found, name) for arch, found in stacks.items()} for name in exported}
+
+
+def too_deep(deepest):
+    """The calls that take LIMIT octets or more on some machine."""
+    return [name for name, octets in deepest.items() if name not in UNBOUNDED and max(octets.values()) >= LIMIT]
 
 
 def text_size(thing):
