@@ -39,8 +39,10 @@ fn read_back(sheet: Sheet, written: usize, buffer: &[u8]) -> Reply {
 fn put_writing(sheet: Sheet, writing: Writing, buffer: &[u8; ROOM], room: usize) -> Reply {
     let lent = part(buffer, 0, room);
     match writing {
-        Writing::Written(written) => read_back(sheet, written, lent),
-        Writing::Refused(refusal) => Reply::empty().result(0, refusal).octets(lent),
+        Writing::Written(written) => read_back(sheet, written as usize, lent),
+        Writing::Refused(number) => Reply::empty()
+            .result(0, Refusal { number, at: 0 })
+            .octets(lent),
     }
 }
 

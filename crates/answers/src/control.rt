@@ -7,11 +7,11 @@ use super::question::counted;
 use super::reply::Reply;
 use super::value;
 use incoming::Offered;
-use outgoing::Sending;
 use reception::Answer;
 use reception::Event;
 use reception::What;
 use sheet::Sheet;
+use writing::Writing;
 ghost use Prim.Native.Nat.{_≤_};
 
 // How many octets an event takes.
@@ -80,16 +80,19 @@ fn answer_numbered(number: u8, cause: u16) -> Answer {
     }
 }
 
+fn said_of(octets: u32) -> u32 {
+    if octets == 0 { 2 } else { 1 }
+}
+
 // What was said (0 refused, 1 written, 2 nothing to send), how many octets were written, the refusal's number and place.
-fn sending_row(sending: Sending) -> [u32; 4] {
+fn sending_row(sending: Writing) -> [u32; 4] {
     match sending {
-        Sending::Written(octets) => [1, (octets % 4294967296) as u32, 0, 0],
-        Sending::Nothing => [2, 0, 0, 0],
-        Sending::Refused(refusal) => [0, 0, refusal.number, refusal.at],
+        Writing::Written(octets) => [said_of(octets), octets, 0, 0],
+        Writing::Refused(number) => [0, 0, number, 0],
     }
 }
 
-fn put_sending(sending: Sending, buffer: &[u8; ROOM], room: usize) -> Reply {
+fn put_sending(sending: Writing, buffer: &[u8; ROOM], room: usize) -> Reply {
     Reply::empty()
         .numbers(&sending_row(sending))
         .octets(part(buffer, 0, room))

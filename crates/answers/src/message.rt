@@ -9,122 +9,12 @@ use packet::Message;
 use packet::Name;
 use packet::Reading;
 use packet::Verdict;
+use packet::row;
+use packet::row::NONE;
 ghost use Prim.Native.Nat.{_<_};
 
 // How many octets that takes.
 pub const LENGTH: usize = 48;
-
-// Stands for a number that a message has not.
-const NONE: u32 = 4294967295;
-
-// Stands for a name that a message has not.
-const NOBODY: Name = Name { at: 0, len: 0 };
-
-// The numbers of a message: its kind, its head and names, Result, cause, Indicator, and no Source or Message Type.
-fn row(
-    kind: u32,
-    head: Head,
-    user: Name,
-    named: Name,
-    result: u32,
-    cause: u32,
-    i: Indicator,
-) -> [u32; 12] {
-    let given = match i {
-        Indicator::Absent => NONE,
-        Indicator::Given(n) => n as u32,
-    };
-    [
-        kind,
-        head.ssrc,
-        head.ack as u32,
-        user.at,
-        user.len,
-        named.at,
-        named.len,
-        result,
-        cause,
-        given,
-        NONE,
-        NONE,
-    ]
-}
-
-// Those of a message without a name.
-fn nameless(kind: u32, head: Head, result: u32, cause: u32, i: Indicator) -> [u32; 12] {
-    row(kind, head, NOBODY, NOBODY, result, cause, i)
-}
-
-fn response(head: Head, verdict: Verdict, i: Indicator) -> [u32; 12] {
-    match verdict {
-        Verdict::Granted => nameless(2, head, 1, NONE, i),
-        Verdict::Rejected(cause) => nameless(2, head, 0, cause as u32, i),
-    }
-}
-
-fn ack(h: Head, source: u16, about: u8) -> [u32; 12] {
-    [
-        7,
-        h.ssrc,
-        h.ack as u32,
-        0,
-        0,
-        0,
-        0,
-        NONE,
-        NONE,
-        NONE,
-        source as u32,
-        about as u32,
-    ]
-}
-
-fn numbers_of(message: Message) -> [u32; 12] {
-    match message {
-        Message::ReceiveRequest {
-            head,
-            user,
-            source,
-            indicator,
-        } => row(1, head, user, source, NONE, NONE, indicator),
-        Message::ReceiveResponse {
-            head,
-            verdict,
-            indicator,
-        } => response(head, verdict, indicator),
-        Message::EndRequest {
-            head,
-            transmitter,
-            indicator,
-        } => row(3, head, NOBODY, transmitter, NONE, NONE, indicator),
-        Message::EndResponse { head, transmitter } => row(
-            4,
-            head,
-            NOBODY,
-            transmitter,
-            NONE,
-            NONE,
-            Indicator::Absent,
-        ),
-        Message::TransmissionEnd {
-            head,
-            cause,
-            indicator,
-        } => nameless(5, head, NONE, cause as u32, indicator),
-        Message::TransmissionEndResponse { head } => nameless(
-            6,
-            head,
-            NONE,
-            NONE,
-            Indicator::Absent,
-        ),
-        Message::Ack {
-            head,
-            source,
-            about,
-        } => ack(head, source, about),
-    }
-}
 
 // The name whose place is the k-th number.
 fn name_in(body: &[u8], k: usize) -> Name
@@ -194,7 +84,7 @@ pub fn message_in(body: &[u8]) -> Message {
 
 fn row_of(reading: Reading) -> [u32; 12] {
     match reading {
-        Reading::Read(message) => numbers_of(message),
+        Reading::Read(message) => row::row_of(message),
         Reading::Refused(refusal) => [0, refusal.number, refusal.at, 0, 0, 0, 0, 0, 0, 0, 0, 0],
     }
 }

@@ -85,7 +85,7 @@ pub fn field(reply: Reply, body: &[u8], rest: &[u8]) -> Reply {
     let place = high * 4294967296 + low;
     let octets = part(body, 2, counted(body));
     let stands = step::put_step(reply, fields::field::field_at(octets, place));
-    step::put_step(stands, fields::reader::field_in(octets, place))
+    step::put_step(stands, field_reader::field_in(octets, place))
 }
 
 // 8: what is written of a message under the numbers of a value, into a buffer that was filled. Behind the numbers stand the message,

@@ -18,7 +18,7 @@ use reception::Streams;
 use reception::Taking;
 use reception::Worked;
 use sheet::Sheet;
-ghost use Prim.Native.Nat.{_<_, _≤_};
+ghost use Prim.Native.Nat.{_<_};
 
 // Behind the sheet's numbers stand the eight records, where a question has them.
 pub const START: usize = value::ROWS + stream::RECORDS;

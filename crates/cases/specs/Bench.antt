@@ -14,7 +14,7 @@ use Rattle.sheet.specs.declared.Sheet.{Sheet}
 use Rattle.sheet_text.specs.Reading as sheet
 use Rattle.sheet_text.specs.Line.{lf}
 use Rattle.packet.specs.Reading as packet
-use Rattle.plan.specs.Meaning.{Value, nothing, numeral, spelt, Meaning, meaning}
+use Rattle.packet.specs.Meaning.{Value, nothing, numeral, spelt, Meaning, meaning}
 use Rattle.writing.specs.Writing.{made, writeOf}
 use Rattle.streams.specs.declared.Phase.{Phase}
 use Rattle.streams.specs.declared.Phase.the-variants.{Free, Idle, Watched, Ending}

@@ -5,8 +5,6 @@ pub mod Off
 pub mod Steps
 pub mod Wrote
 pub mod Sheets
-pub mod Sends
 pub mod Writes
-pub mod Unwritable
 pub mod Standing
 pub mod Claims

@@ -6,22 +6,22 @@ use mathlib.Core.List.{List, [], _∷_}
 use mathlib.Core.Option.{Option, none, some}
 use lib.Dec.{eqb, ltb}
 use Rattle.octets.specs.Choice.{pick}
-use Rattle.sheet.specs.Value.{sheetIn, validAlone, validWith}
+use Rattle.sheet.specs.Value.{sheetIn, validAlone}
 use Rattle.sheet_text.specs.declared.Reading.{Reading}
 use Rattle.sheet_text.specs.Reading.{readOf as sheetRead}
 use Rattle.fields.specs.Walk.{Stepped, field, end, refused as stepRefused, stepOf}
 use Rattle.packet.specs.Reading.{Outcome, reads, refused}
 use Rattle.packet.specs.Reading.{readOf as packetRead}
+use Rattle.packet.specs.Row.{messageRow, messageIn}
 use Rattle.writing.specs.Writing.{Made, made, refused as notMade, writeOf}
 use Rattle.streams.specs.declared.Record.{Record}
 use Rattle.streams.specs.declared.Event.{Event}
-use Rattle.streams.specs.declared.Answer.{Answer}
 use Rattle.streams.specs.Record.{own}
-use Rattle.streams.specs.Answer.{Reply, messageOf}
+use Rattle.streams.specs.Answer.{Reply}
 use Rattle.reception.specs.Steps.{Said, gives, refuses, check, Left, Try, readOf, attemptOf, storeOf, countOf}
 use Rattle.incoming.specs.Event.{eventOf}
-use Rattle.outgoing.specs.Sending.{sendingOf}
-use Rattle.rows.specs.Rows.{messageRow, messageIn, fieldRow, endRow, recordRow, recordsRow, recordsIn, eventRow, eventIn, replyRow, answerIn, tryRow, tryIn}
+use Rattle.outgoing.specs.Sending.{sendingIn, octetsOut}
+use Rattle.rows.specs.Rows.{fieldRow, endRow, recordRow, recordsRow, recordsIn, eventRow, eventIn, replyRow, answerIn, tryRow, tryIn}
 
 -- something else of what is given
 unfoldable pub ofGiven : {A B : Type 0} → (A → B) → Said A → Said B
@@ -49,7 +49,7 @@ readSays sheet packet = outcomeSays (packetRead (sheetIn sheet) packet)
 -- the packet that is written
 abbrev pub madeSays : Made → Said (List ℕ)
 madeSays (made p) = gives p
-madeSays (notMade number at) = refuses number at
+madeSays (notMade number) = refuses number 0
 
 unfoldable pub writeSays : List ℕ → List ℕ → List ℕ → ℕ → Said (List ℕ)
 writeSays sheet message names room = madeSays (writeOf (sheetIn sheet) (messageIn message) names room)
@@ -96,12 +96,6 @@ storeSays sheet attempt records =
     under sheet (standing 9 (tryIn attempt) (λ (a : Try).
     standing 9 (recordsIn 8 records) (λ (rs : List Record). leftSays (storeOf (sheetIn sheet) a rs))))
 
--- the packet to send: no octets where the answer sends none
-abbrev pub octetsOf : Option (List ℕ) → List ℕ
-octetsOf none = []
-octetsOf (some p) = p
-
+-- the packet that the answer of a row sends
 unfoldable pub packetSays : List ℕ → List (List ℕ) → ℕ → List ℕ → ℕ → Said (List ℕ)
-packetSays sheet users stream answer room =
-    check (validWith (sheetIn sheet) users) 12
-    (standing 9 (answerIn answer) (λ (a : Answer). ofGiven octetsOf (sendingOf (sheetIn sheet) users stream (messageOf a) room)))
+packetSays sheet users stream answer room = madeSays (octetsOut (sendingIn (sheetIn sheet) users stream (answerIn answer) room))

@@ -12,10 +12,11 @@ use Rattle.sheet.specs.Value.{sheetIn, validWith}
 use Rattle.sheet_text.specs.declared.Reading.{Reading}
 use Rattle.sheet_text.specs.Reading.{usersIn}
 use Rattle.packet.specs.Reading.{Outcome}
-use Rattle.plan.specs.Meaning.{meaning}
+use Rattle.packet.specs.Meaning.{meaning}
+use Rattle.packet.specs.Row.{messageRow, messageIn}
 use Rattle.plan.specs.Packet.{packetFor}
 use Rattle.reception.specs.Steps.{gives}
-use Rattle.rows.specs.Rows.{sheetRow, messageRow, messageIn}
+use Rattle.rows.specs.Rows.{sheetRow}
 use Rattle.face.specs.Calls.{Stored, sheetSays, storeSays}
 
 -- of a sheet that was read, the numbers are the sheet's and go with the User IDs

@@ -2,41 +2,32 @@
 use mathlib.Core.Path.{_≡_}
 use Prim.Native.Nat.{ℕ, _≤_}
 use mathlib.Core.Bool.{false, _&&_}
-use mathlib.Core.List.{List}
-use mathlib.Core.Option.{none, some}
-use Rattle.sheet.specs.declared.Sheet.{Sheet}
+use mathlib.Core.List.{List, [], _∷_}
+use mathlib.Core.Option.{some}
 use Rattle.sheet.specs.Value.{sheetIn}
-use Rattle.packet.specs.Reading.{Outcome}
-use Rattle.packet.specs.Message.{messageSaid}
-use Rattle.plan.specs.Meaning.{meaning}
-use Rattle.plan.specs.Packet.{packetFor}
+use Rattle.writing.specs.declared.Writing.{Writing}
+use Rattle.writing.specs.declared.Writing.the-variants.{Written, Refused as NotWritten}
 use Rattle.streams.specs.declared.Event.{Event}
 use Rattle.streams.specs.declared.Record.{Record}
 use Rattle.streams.specs.declared.stream.Rules.{Rules}
 use Rattle.streams.specs.Record.{onSheet, legal}
 use Rattle.streams.specs.Table.{senderOn}
 use Rattle.reception.specs.declared.Attempt.{Attempt}
-use Rattle.reception.specs.Steps.{Try, attemptSaid, storeOf}
-use Rattle.rows.specs.declared.message.Handed.{Handed}
-use Rattle.rows.specs.declared.message.Handed.the-variants.{Message as HandedMessage, Nothing as NoMessage}
+use Rattle.reception.specs.Steps.{Said, gives, refuses, Try, attemptSaid, storeOf}
 use Rattle.rows.specs.declared.event.Eventing.{Eventing}
 use Rattle.rows.specs.declared.event.Eventing.the-variants.{Event as EventingEvent, Nothing as NoEvent}
 use Rattle.rows.specs.declared.attempt.Trying.{Trying}
 use Rattle.rows.specs.declared.attempt.Trying.the-variants.{Attempt as TryingAttempt, Nothing as NoAttempt}
-use Rattle.rows.specs.Rows.{messageIn, recordsIn, eventIn, tryIn}
+use Rattle.rows.specs.Rows.{recordsIn, eventIn, tryIn}
 use Rattle.face.specs.Calls.{leftSays}
 use Rattle.face.specs.Promises.{Keeps}
 
--- ---- messages
+-- ---- packets
 
--- no packet reads to it
-abbrev pub Unwritable : Outcome → Type 0
-Unwritable o = (s : Sheet) (names : List ℕ) → packetFor s (meaning names o) ≡ none
-
--- what is made of a row is the message that it stands for, and nothing is made only of one that no packet reads to
-abbrev pub HandedIs : List ℕ → Handed → Type 0
-HandedIs row (HandedMessage m) = messageIn row ≡ messageSaid m
-HandedIs row NoMessage = Unwritable (messageIn row)
+-- how many octets were written, as a number to put, or the refusal
+abbrev pub writingSays : Writing → Said (List ℕ)
+writingSays (Written octets) = gives (octets ∷ [])
+writingSays (NotWritten number) = refuses number 0
 
 -- ---- events
 

@@ -5,10 +5,9 @@ mod told;
 use fields::field::Field;
 use fields::field::Step;
 use incoming::Offered;
-use outgoing::Sending;
-use packet::Message;
 use packet::Reading;
-use reception::Answer;
+use packet::row::NONE;
+use packet::row::row_of;
 use reception::Attempt;
 use reception::Counted;
 use reception::Event;
@@ -17,10 +16,7 @@ use reception::Seen;
 use reception::Taking;
 use reception::Worked;
 use rows::NO_ROOM;
-use rows::NONE;
 use rows::OCTET_END;
-use rows::answer::Answering;
-use rows::answer::answer_in;
 use rows::attempt::GIVEN;
 use rows::attempt::Trying;
 use rows::attempt::attempt_in;
@@ -28,9 +24,6 @@ use rows::attempt::put_attempt;
 use rows::event::Eventing;
 use rows::event::event_in;
 use rows::event::put_event;
-use rows::message::Handed;
-use rows::message::message_in;
-use rows::message::put_message;
 use rows::put;
 use rows::put_number;
 use rows::records::Recording;
@@ -39,42 +32,44 @@ use rows::records::put_at;
 use rows::records::put_record;
 use rows::records::record_at;
 use rows::records::record_in;
+use sheet::SEATS;
 use sheet::Users;
+use sheet::WIDTH;
 use sheet::numbers::LINES;
 use sheet::numbers::numbers_of;
 use told::code;
 use told::misfit;
-use told::misfit_with;
 use writing::Writing;
 ghost use mathlib.Core.Path.{_≡_};
 ghost use mathlib.Core.Bool.{_&&_};
 ghost use Prim.Native.Nat.{_+_, _<_, _≤_, _^_};
-ghost use lib.ListN.{length};
 ghost use lib.Dec.{ltb, leb};
 ghost use Rattle.octets.specs.Choice.{pick};
 ghost use Rattle.sheet.specs.Value.{sheetIn};
-ghost use Rattle.packet.specs.Message.{messageSaid};
-ghost use Rattle.writing.specs.Writing.{writeOf};
-ghost use Rattle.streams.specs.Answer.{messageOf};
 ghost use Rattle.reception.specs.Steps.{gives, check, attemptOf};
-ghost use Rattle.outgoing.specs.Sending.{sendingOf};
 ghost use Rattle.rows.specs.Rows.{isSome, fieldRow, recordsIn, answerRow, tryRow};
 ghost use Rattle.rows.specs.Promises.{Rowed};
-ghost use Rattle.face.specs.Calls.{ofGiven, madeSays, octetsOf};
-ghost use Rattle.face.specs.Promises.{Wrote, mcv-sheet≡, mcv-read≡, mcv-write≡, mcv-field≡, mcv-event≡, mcv-seen≡, mcv-work-out≡, mcv-store≡, mcv-count≡, mcv-packet≡};
-ghost use Rattle.face.specs.Inner.{Stores};
+ghost use Rattle.face.specs.Calls.{ofGiven};
+ghost use Rattle.face.specs.Promises.{mcv-sheet≡, mcv-read≡, mcv-write≡, mcv-field≡, mcv-event≡, mcv-seen≡, mcv-work-out≡, mcv-store≡, mcv-count≡, mcv-packet≡};
+ghost use Rattle.face.specs.Inner.{writingSays, Stores};
 
 const BAD_FIELD: u32 = 4;
-
-const NO_MESSAGE: u32 = 5;
-
-const NOT_LEGAL: u32 = 9;
 
 // How much of a buffer may be written into where so many numbers are lent for the count: nothing where there are none, as 11 is given then.
 fn room_of(out: usize, written: usize) -> usize
     ensures { λ r. ⌜ (r ≡ pick (leb 1 written) out 0) × (r ≤ out) ⌝ }
 {
     if written == 0 { 0 } else { out }
+}
+
+// What was written: its length into the front of a slice, or the refusal's number.
+fn put_written(written: &mut [u32], writing: Writing) -> u32
+    ensures { λ r. ⌜ Rowed (writingSays writing) (now (written .entry)) r (now (written .exit)) ⌝ }
+{
+    match writing {
+        Writing::Written(octets) => put_number(written, octets),
+        Writing::Refused(number) => number,
+    }
 }
 
 // ---- the sheet
@@ -89,7 +84,8 @@ pub extern "C" fn mcv_sheet(
 ) -> u32
     ensures { λ r. ⌜ mcv-sheet≡ (now (text .entry)) (now (sheet .entry)) (now (users .entry)) (now (used .entry)) r (now (sheet .exit)) (now (users .exit)) (now (used .exit)) ⌝ }
 {
-    let reading = sheet_text::read(text);
+    let mut named = [[0u8; WIDTH]; SEATS];
+    let reading = sheet_text::read_with(text, &mut named);
     let refusal = reading.refusal;
     if refusal.number != 0 {
         return code(refusal);
@@ -103,7 +99,7 @@ pub extern "C" fn mcv_sheet(
     let read = reading.sheet;
     let row = numbers_of(read);
     put(sheet, &row[..]);
-    *users = sheet_text::users(text);
+    *users = named;
     used[0] = reading.used as u32;
     0
 }
@@ -116,19 +112,11 @@ pub extern "C" fn mcv_read(sheet: &[u32], packet: &[u8], message: &mut [u32]) ->
     ensures { λ r. ⌜ mcv-read≡ (now (sheet .entry)) (now (packet .entry)) (now (message .entry)) r (now (message .exit)) ⌝ }
 {
     match packet::read_lent(sheet, packet) {
-        Reading::Read(read) => put_message(message, read),
+        Reading::Read(read) => {
+            let row = row_of(read);
+            put(message, &row[..])
+        }
         Reading::Refused(refusal) => code(refusal),
-    }
-}
-
-// Writes a message, and how many octets.
-fn write(sheet: &[u32], message: Message, names: &[u8], out: &mut [u8], written: &mut [u32]) -> u32
-    ensures { λ r. ⌜ Wrote (madeSays (writeOf (sheetIn (now (sheet .entry))) (messageSaid message) (now (names .entry)) (length (now (out .entry))))) (now (out .entry)) (now (written .entry)) r (now (out .exit)) (now (written .exit)) ⌝ }
-{
-    let room = room_of(out.len(), written.len());
-    match writing::write_lent(sheet, message, names, &mut out[..room]) {
-        Writing::Written(octets) => put_number(written, octets as u32),
-        Writing::Refused(refusal) => code(refusal),
     }
 }
 
@@ -143,10 +131,11 @@ pub extern "C" fn mcv_write(
 ) -> u32
     ensures { λ r. ⌜ mcv-write≡ (now (sheet .entry)) (now (message .entry)) (now (names .entry)) (now (out .entry)) (now (written .entry)) r (now (out .exit)) (now (written .exit)) ⌝ }
 {
-    match message_in(message) {
-        Handed::Message(given) => write(sheet, given, names, out, written),
-        Handed::Nothing => misfit(sheet, NO_MESSAGE),
-    }
+    let room = room_of(out.len(), written.len());
+    put_written(
+        written,
+        writing::write_lent(sheet, message, names, &mut out[..room]),
+    )
 }
 
 // Puts a field's row into the front of a slice, or 4 where its next place is no 32-bit number, or 11.
@@ -210,7 +199,7 @@ pub extern "C" fn mcv_seen(sheet: &[u32], records: &[u8], stream: u32, seen: &mu
     ensures { λ r. ⌜ mcv-seen≡ (now (sheet .entry)) (now (records .entry)) stream (now (seen .entry)) r (now (seen .exit)) ⌝ }
 {
     if !are_right(records, stream) {
-        return misfit(sheet, NOT_LEGAL);
+        return misfit(sheet);
     }
     let stream = stream as u8;
     match reception::seen_lent(sheet, record_at(records, stream), stream) {
@@ -225,7 +214,7 @@ pub extern "C" fn mcv_count(sheet: &[u32], records: &[u8], stream: u32, count: &
     ensures { λ r. ⌜ mcv-count≡ (now (sheet .entry)) (now (records .entry)) stream (now (count .entry)) r (now (count .exit)) ⌝ }
 {
     if !are_right(records, stream) {
-        return misfit(sheet, NOT_LEGAL);
+        return misfit(sheet);
     }
     let stream = stream as u8;
     match reception::counted_lent(sheet, record_at(records, stream), stream) {
@@ -255,11 +244,11 @@ pub extern "C" fn mcv_work_out(
     ensures { λ r. ⌜ mcv-work-out≡ (now (sheet .entry)) (now (seen .entry)) (now (event .entry)) (now (attempt .entry)) r (now (attempt .exit)) ⌝ }
 {
     let Recording::Record(own) = record_in(seen) else {
-        return misfit(sheet, NOT_LEGAL);
+        return misfit(sheet);
     };
     match event_in(event) {
         Eventing::Event(given) => work_out(sheet, own, given, attempt),
-        Eventing::Nothing => misfit(sheet, NOT_LEGAL),
+        Eventing::Nothing => misfit(sheet),
     }
 }
 
@@ -299,30 +288,11 @@ pub extern "C" fn mcv_store(
     ensures { λ r. ⌜ mcv-store≡ (now (sheet .entry)) (now (attempt .entry)) (now (records .entry)) (now (answer .entry)) r (now (records .exit)) (now (answer .exit)) ⌝ }
 {
     if !are_records(records) {
-        return misfit(sheet, NOT_LEGAL);
+        return misfit(sheet);
     }
     match attempt_in(attempt) {
         Trying::Attempt(given) => store(sheet, given, &attempt[GIVEN..], records, answer),
-        Trying::Nothing => misfit(sheet, NOT_LEGAL),
-    }
-}
-
-// Writes the packet that an answer sends, and how many octets.
-fn send(
-    sheet: &[u32],
-    users: &Users,
-    stream: u8,
-    answer: Answer,
-    out: &mut [u8],
-    written: &mut [u32],
-) -> u32
-    ensures { λ r. ⌜ Wrote (ofGiven octetsOf (sendingOf (sheetIn (now (sheet .entry))) (now (users .entry)) stream (messageOf answer) (length (now (out .entry))))) (now (out .entry)) (now (written .entry)) r (now (out .exit)) (now (written .exit)) ⌝ }
-{
-    let room = room_of(out.len(), written.len());
-    match outgoing::packet_lent(sheet, users, stream, answer, &mut out[..room]) {
-        Sending::Written(octets) => put_number(written, octets as u32),
-        Sending::Nothing => put_number(written, 0),
-        Sending::Refused(refusal) => code(refusal),
+        Trying::Nothing => misfit(sheet),
     }
 }
 
@@ -338,11 +308,9 @@ pub extern "C" fn mcv_packet(
 ) -> u32
     ensures { λ r. ⌜ mcv-packet≡ (now (sheet .entry)) (now (users .entry)) stream (now (answer .entry)) (now (out .entry)) (now (written .entry)) r (now (out .exit)) (now (written .exit)) ⌝ }
 {
-    if OCTET_END <= stream {
-        return misfit_with(sheet, users, NOT_LEGAL);
-    }
-    match answer_in(answer) {
-        Answering::Answer(given) => send(sheet, users, stream as u8, given, out, written),
-        Answering::Nothing => misfit_with(sheet, users, NOT_LEGAL),
-    }
+    let room = room_of(out.len(), written.len());
+    put_written(
+        written,
+        outgoing::packet_lent(sheet, users, stream, answer, &mut out[..room]),
+    )
 }

@@ -4,6 +4,3 @@ pub mod Walk
 pub mod Fields
 pub mod Step
 pub mod Layouts
-pub mod Called
-pub mod Owned
-pub mod Reader

@@ -1,9 +1,9 @@
 -- What an inner function says. The public promises rest on it, and nobody need believe it: it is only a step of a proof. Assumes nothing.
-use lib.Dec.{eqb}
+use Prim.Native.Nat.{ℕ}
+use mathlib.Core.List.{List}
 use Rattle.octets.specs.Choice.{pick}
-use Rattle.sheet.specs.declared.Refusal.{Refusal}
-use Rattle.fields.specs.Walk.{Stepped, refused}
+use Rattle.fields.specs.Walk.{fieldRight, nextAt}
 
--- a refusal, where there is one; else what a step says
-abbrev pub refusedOr : Refusal → Stepped → Stepped
-refusedOr r said = pick (eqb (r .number) 0) said (refused (r .number) (r .at))
+-- past the field at a place, where it is right; else the place itself
+abbrev pub pastField : List ℕ → ℕ → ℕ
+pastField p at = pick (fieldRight p at) (nextAt p at) at

@@ -9,7 +9,7 @@ use lib.Dec.{T}
 use Rattle.sheet.specs.declared.Sheet.{Sheet}
 use Rattle.sheet.specs.Value.{validWith}
 use Rattle.packet.specs.Reading.{refused, readOf}
-use Rattle.plan.specs.Meaning.{Meaning, meaning}
+use Rattle.packet.specs.Meaning.{Meaning, meaning}
 use Rattle.streams.specs.declared.Event.{Event}
 use Rattle.streams.specs.declared.What.{What}
 use Rattle.streams.specs.declared.What.the-variants.{Request, End, Open, T11, EndResponse, Release}

@@ -2,7 +2,7 @@
 -- from Source ID or User ID; kind 6 on the sender's own stream"; "Refusals": 12 line 0, 1 to 5, then 8, 6, 7). Assumes nothing.
 use Prim.Native.Nat.{ℕ}
 use mathlib.Core.Bool.{Bool}
-use mathlib.Core.List.{List, [], map}
+use mathlib.Core.List.{List, map}
 use mathlib.Core.Option.{Option, none, some}
 use lib.ListN.{getD}
 use lib.Dec.{eqb}
@@ -12,8 +12,7 @@ use Rattle.sheet.specs.declared.Senders.{Senders}
 use Rattle.sheet.specs.Value.{validWith}
 use Rattle.sheet.specs.Find.{userOf, seatOfSsrc, seatOfUser}
 use Rattle.packet.specs.Reading.{Outcome, reads, refused, readOf}
-use Rattle.plan.specs.Meaning.{Value, nothing, Meaning, valueIn}
-use Rattle.plan.specs.Packet.{nameHeld}
+use Rattle.packet.specs.Meaning.{Value, nothing, Meaning, valueIn, nameHeld}
 use Rattle.streams.specs.declared.Event.{Event}
 use Rattle.streams.specs.declared.What.{What}
 use Rattle.streams.specs.declared.What.the-variants.{Request, End, EndResponse}

@@ -1,10 +1,9 @@
 // A packet as an event (document 01, "Stream record": "A packet makes an event only so").
 use super::Offered;
 use super::refusal;
+use packet::Asked;
 use packet::Head;
-use packet::Message;
 use packet::Name;
-use packet::Reading;
 use reception::Event;
 use reception::What;
 use sheet::Found;
@@ -21,12 +20,12 @@ ghost use lib.ListN.{length};
 ghost use Rattle.sheet.specs.Value.{sheetFrom};
 ghost use Rattle.packet.specs.Claims.{nameRight};
 ghost use Rattle.packet.specs.Kind.{numbersOf};
-ghost use Rattle.packet.specs.Message.{nameSaid, messageSaid};
+ghost use Rattle.packet.specs.Message.{nameSaid};
 ghost use Rattle.packet.specs.Reading.{readBy};
 ghost use Rattle.streams.specs.declared.What.the-variants.{End};
 ghost use Rattle.reception.specs.Steps.{refuses};
 ghost use Rattle.incoming.specs.Event.{sendersOf, onStream, requestBy, endResponseOn, bySender, eventFrom, offeredSaid};
-ghost use Rattle.incoming.specs.Inner.{octetsAt, NamesRight};
+ghost use Rattle.incoming.specs.Inner.{octetsAt};
 
 // What a search by SSRC looks at of a sheet's numbers.
 fn senders_in(n: &[u32]) -> Senders
@@ -124,38 +123,24 @@ fn end_response(senders: Senders, head: Head) -> Offered
     }
 }
 
-// The event that a message makes, or 8, 6 or 7.
-fn offered(senders: Senders, users: &Users, packet: &[u8], message: Message) -> Offered
-    requires { ⌜ NamesRight (now packet) (messageSaid message) ⌝ }
-    ensures { λ r. ⌜ offeredSaid r ≡ eventFrom senders (now (users .entry)) (now (packet .entry)) (messageSaid message) ⌝ }
-{
-    match message {
-        Message::ReceiveRequest {
-            head,
-            user,
-            source,
-            indicator: _,
-        } => request(senders, users, packet, head.ssrc, user, source),
-        Message::ReceiveResponse { .. } => refused(8),
-        Message::EndRequest {
-            head,
-            transmitter,
-            indicator: _,
-        } => end(senders, users, packet, head.ssrc, transmitter),
-        Message::EndResponse { .. } => refused(8),
-        Message::TransmissionEnd { .. } => refused(8),
-        Message::TransmissionEndResponse { head } => end_response(senders, head),
-        Message::Ack { .. } => refused(8),
-    }
-}
-
 // The event that a packet makes under a sheet, or 1 to 5, 8, 6 or 7. Whether the sheet is valid is not asked.
 pub fn event_in(numbers: &[u32], users: &Users, packet: &[u8]) -> Offered
     requires { ⌜ length (now numbers) ≡ 19 ⌝ }
     ensures { λ r. ⌜ offeredSaid r ≡ eventFrom (sendersOf (sheetFrom (now (numbers .entry)))) (now (users .entry)) (now (packet .entry)) (readBy (numbersOf (sheetFrom (now (numbers .entry)))) (now (packet .entry))) ⌝ }
 {
-    match packet::read_by_lent(numbers, packet) {
-        Reading::Read(message) => offered(senders_in(numbers), users, packet, message),
-        Reading::Refused(refusal) => Offered::Refused(refusal),
+    match packet::asked_lent(numbers, packet) {
+        Asked::Request { ssrc, user, source } => {
+            request(senders_in(numbers), users, packet, ssrc, user, source)
+        }
+        Asked::End { ssrc, transmitter } => end(
+            senders_in(numbers),
+            users,
+            packet,
+            ssrc,
+            transmitter,
+        ),
+        Asked::EndResponse { head } => end_response(senders_in(numbers), head),
+        Asked::Nothing => refused(8),
+        Asked::Refused(refusal) => Offered::Refused(refusal),
     }
 }

@@ -8,8 +8,8 @@ use lib.Dec.{T}
 use Rattle.octets.specs.Choice.{every}
 use Rattle.sheet_text.specs.Line.{lf, longest}
 use Rattle.sheet_text.specs.Reading.{noRefusal}
-use Rattle.writing.specs.declared.Writing.{Writing}
-use Rattle.writing.specs.declared.Writing.the-variants.{Written}
+use Rattle.shown.specs.declared.Printing.{Printing}
+use Rattle.shown.specs.declared.Printing.the-variants.{Printed}
 use Rattle.look.specs.declared.Look.{Look}
 use Rattle.look.specs.declared.Stepped.{Stepped}
 use Rattle.look.specs.Lines.{inLine, linesOf}
@@ -45,9 +45,9 @@ pieceOf c = c .piece
 -- Any input in any pieces: from `start`, `step` after `step` and then `end` print what `lookOf` says of the whole, and the end is not refused.
 abbrev pub PiecesPrintTheWhole : Type 0
 PiecesPrintTheWhole =
-    (first last : Look) (calls : List Call) (out : List ℕ) (r : Writing) (after : List ℕ)
+    (first last : Look) (calls : List Call) (out : List ℕ) (r : Printing) (after : List ℕ)
     → start≡ first → CalledInTurn first calls last → roomAsked 0 ≤ length out → end≡ last out r after
-    → (n : ℕ) × (r ≡ Written n) × (flatten (map printedBy calls) ++ take n after ≡ lookOf (flatten (map pieceOf calls)))
+    → (n : ℕ) × (r ≡ Printed n) × (flatten (map printedBy calls) ++ take n after ≡ lookOf (flatten (map pieceOf calls)))
 
 -- A call with room is not refused, so that its piece is taken.
 abbrev pub RoomIsEnough : Type 0

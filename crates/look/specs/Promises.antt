@@ -5,13 +5,13 @@ use Prim.Native.Nat.{ℕ}
 use mathlib.Core.Bool.{Bool}
 use mathlib.Core.List.{List, []}
 use lib.ListN.{length}
+use lib.Dec.{leb}
 use Rattle.octets.specs.Promises.{one-value}
-use Rattle.writing.specs.declared.Writing.{Writing}
-use Rattle.writing.specs.Writing.{Answered}
-use Rattle.writing.specs.Promises.{answered-once}
+use Rattle.shown.specs.declared.Printing.{Printing}
+use Rattle.shown.specs.Printing.{Prints, prints-once}
 use Rattle.look.specs.declared.Look.{Look}
 use Rattle.look.specs.declared.Stepped.{Stepped}
-use Rattle.look.specs.Steps.{inSheet, stateOf, lookAs, isRefused, endAs, steppedOf, afterStep}
+use Rattle.look.specs.Steps.{inSheet, stateOf, lookAs, isRefused, endOf, roomAsked, steppedOf, afterStep}
 
 -- ---- the input piece by piece
 
@@ -31,12 +31,12 @@ pub step-once : (look : Look) (piece out : List ℕ) (x y : Stepped) (now other 
 step-once look piece out x y now other e f = (one-value x y (e .0) (f .0), one-value now other (e .1) (f .1))
 
 -- the end of the input
-abbrev pub end≡ : Look → List ℕ → Writing → List ℕ → Type 0
-end≡ look out r now = Answered (endAs look (length out)) out r now
+abbrev pub end≡ : Look → List ℕ → Printing → List ℕ → Type 0
+end≡ look out r now = Prints (leb (roomAsked 0) (length out)) (endOf (stateOf look)) out r now
 
-pub end-once : (look : Look) (out : List ℕ) (x y : Writing) (now other : List ℕ)
+pub end-once : (look : Look) (out : List ℕ) (x y : Printing) (now other : List ℕ)
     → end≡ look out x now → end≡ look out y other → (x ≡ y) × (now ≡ other)
-end-once look out x y now other e f = answered-once (endAs look (length out)) out x y now other e f
+end-once look out = prints-once (leb (roomAsked 0) (length out)) (endOf (stateOf look)) out
 
 -- whether nothing more is printed
 abbrev pub is-refused≡ : Look → Bool → Type 0

@@ -8,13 +8,13 @@ use lib.ListN.{length, take, drop}
 use lib.Dec.{leb, ltb, eqb}
 use Rattle.octets.specs.Choice.{pick}
 use Rattle.octets.specs.Buffer.{over, padded}
-use Rattle.sheet.specs.declared.Refusal.{Refusal}
 use Rattle.sheet_text.specs.Line.{lf}
 use Rattle.sheet_text.specs.Reading.{noRefusal, readOf}
 use Rattle.packet.specs.declared.Numbers.{Numbers}
 use Rattle.packet.specs.Kind.{numbersOf}
-use Rattle.writing.specs.Writing.{Made, made, refused}
-use Rattle.shown.specs.Line.{mostDigits, lineBy, sheetLine}
+use Rattle.shown.specs.Printing.{noRoom}
+use Rattle.hex.specs.Line.{mostDigits}
+use Rattle.shown.specs.Line.{lineBy, sheetLine}
 use Rattle.look.specs.declared.held.Held.{Held}
 use Rattle.look.specs.declared.Phase.{Phase}
 use Rattle.look.specs.declared.Phase.the-variants.{Sheet, Lines, Refused}
@@ -145,9 +145,6 @@ roomAsked octets = 10 * (octets + (mostHeld + 1))
 unfoldable pub hasRoom : List ℕ → List ℕ → Bool
 hasRoom piece out = leb (roomAsked (length piece)) (length out)
 
-abbrev pub noRoom : Refusal
-noRoom = record { number = 11; at = 0 }
-
 -- a piece is taken whole, or, where there is no room, not at all
 unfoldable pub steppedOf : Look → List ℕ → List ℕ → Stepped
 steppedOf look piece out =
@@ -158,7 +155,3 @@ steppedOf look piece out =
 
 unfoldable pub afterStep : Look → List ℕ → List ℕ → List ℕ
 afterStep look piece out = pick (hasRoom piece out) (over (stepOf (stateOf look) piece .text) out) out
-
--- at the end likewise
-unfoldable pub endAs : Look → ℕ → Made
-endAs look room = pick (leb (roomAsked 0) room) (made (endOf (stateOf look))) (refused 11 0)

@@ -9,9 +9,9 @@ use packet::NO_NUMBERS;
 use packet::Numbers;
 use sheet::Refusal;
 use shown::NO_ROOM;
+use shown::Printing;
 use shown::TIMES;
 use shown::line;
-use writing::Writing;
 ghost use mathlib.Core.Path.{_≡_};
 ghost use mathlib.Core.Logic.{_⊎_};
 ghost use mathlib.Core.List.{[], _++_};
@@ -204,19 +204,19 @@ fn put_end(out: &mut [u8], at: usize, look: Look) -> usize
 }
 
 // Prints what is left at the end of the input: how many octets, or 11, where the buffer has not ROOM.
-pub fn end(look: Look, out: &mut [u8]) -> Writing
+pub fn end(look: Look, out: &mut [u8]) -> Printing
     ensures { λ r. ⌜ end≡ look (now (out .entry)) r (now (out .exit)) ⌝ }
 {
     if out.len() < ROOM {
-        return Writing::Refused(NO_ROOM);
+        return Printing::Refused(NO_ROOM);
     }
     let phase = look.phase;
     let Phase::Sheet = phase else {
-        return Writing::Written(put_end(out, 0, look));
+        return Printing::Printed(put_end(out, 0, look));
     };
     let nothing = [0u8; 0];
     let went = decide(out, look.held, &nothing);
-    Writing::Written(put_end(out, went.end, went.look))
+    Printing::Printed(put_end(out, went.end, went.look))
 }
 
 // Whether the sheet was refused, so that nothing more is printed, whatever comes.

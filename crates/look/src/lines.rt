@@ -15,7 +15,7 @@ ghost use Rattle.look.specs.Lines.{inLine};
 ghost use Rattle.look.specs.Steps.{heldIn, heldOf, keptOf, leftFrom, linesText};
 
 // One digit more than a packet has decides a line.
-const LINE: usize = 2 * shown::hex::MOST + 1;
+const LINE: usize = 2 * hex::MOST + 1;
 
 // What is kept of a line that has not ended, and the place past what was printed.
 pub struct Kept {

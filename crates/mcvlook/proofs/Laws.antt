@@ -11,13 +11,12 @@ use borrow.Rule.Slice.PartMut.{midOf, putMid}
 use Rattle.octets.specs.Buffer.{over, putAt}
 use Rattle.look.specs.declared.Look.{Look}
 use Rattle.look.specs.declared.Stepped.{Stepped}
-use Rattle.look.specs.Steps.{stateOf, lookAs, stepOf, endOf, roomAsked, endAs}
+use Rattle.look.specs.Steps.{stateOf, lookAs, stepOf, endOf, roomAsked}
 use Rattle.look.specs.Promises.{step≡, end≡}
 use Rattle.look.specs.Claims.{Call, Called}
-use Rattle.look.proofs.Laws.Calls.{called-said, called-after, end-made}
+use Rattle.look.proofs.Laws.Calls.{called-said, called-after, end-whole}
 use Rattle.sheet.specs.declared.Refusal.{Refusal}
-use Rattle.writing.specs.declared.Writing.the-variants.{Written, Refused}
-use Rattle.writing.specs.Writing.{made, told, after}
+use Rattle.shown.specs.declared.Printing.the-variants.{Printed, Refused}
 use Rattle.mcvlook.specs.Gathered.{Gathers}
 
 -- octets that leave the length as it was fit
@@ -62,19 +61,20 @@ module _ (out : List ℕ) (at : ℕ) (start : at ≤ length out) where
 
   -- the end, for which there is room
   module _ (look : Look) (room : at + roomAsked 0 ≤ length out) (now : List ℕ) (l : length now ≡ length (midOf at (length out - at) out)) where
-    -- what is left is printed
-    enough : endAs look (length (midOf at (length out - at) out)) ≡ made (endOf (stateOf look))
-    enough = end-made look (midOf at (length out - at) out) (rw (part-rest, length-drop) (omega arith))
+    -- the part has room
+    enough : roomAsked 0 ≤ length (midOf at (length out - at) out)
+    enough = rw (part-rest, length-drop) (omega arith)
 
     -- the octets that are told are put at the place
-    pub gathers-end : (octets : ℕ) → end≡ look (midOf at (length out - at) out) (Written octets) now
+    pub gathers-end : (octets : ℕ) → end≡ look (midOf at (length out - at) out) (Printed octets) now
         → Gathers (endOf (stateOf look)) out at (at + octets) (putMid at (length out - at) out now)
-    unfolding told after
     gathers-end octets e =
-        let wrote : octets ≡ length (endOf (stateOf look)) = cc (rw enough at (e .0)) in
-        rw wrote (gathers (endOf (stateOf look)) now (rw enough at (e .1)) l)
+        let whole = end-whole look (midOf at (length out - at) out) (Printed octets) now enough e in
+        let printed : octets ≡ length (endOf (stateOf look)) = cc (whole .0) in
+        rw printed (gathers (endOf (stateOf look)) now (whole .1) l)
 
     -- it is not refused
     pub end-not-refused {κ} : {P : Type κ} (r : Refusal) → end≡ look (midOf at (length out - at) out) (Refused r) now → P
-    unfolding told
-    end-not-refused r e = let z : _≡_ {A = ℕ} 0 1 = cc (rw enough at (e .0)) in absurd (omega arith)
+    end-not-refused r e =
+        let z : _≡_ {A = ℕ} 0 1 = cc (end-whole look (midOf at (length out - at) out) (Refused r) now enough e .0) in
+        absurd (omega arith)

@@ -4,7 +4,7 @@ use libc::STDIN_FILENO;
 use libc::STDOUT_FILENO;
 use look::Look;
 use look::Stepped;
-use writing::Writing;
+use shown::Printing;
 ghost use mathlib.Core.Path.{_≡_};
 ghost use Prim.Native.Nat.{_+_, _≤_, _<_};
 ghost use lib.ListN.{length};
@@ -39,8 +39,8 @@ fn gather_last(look: Look, out: &mut [u8], gathered: usize) -> usize
     ensures { λ r. ⌜ Gathers (endOf (stateOf look)) (now (out .entry)) gathered r (now (out .exit)) ⌝ }
 {
     match look::end(look, &mut out[gathered..]) {
-        Writing::Written(octets) => gathered + octets,
-        Writing::Refused(_) => gathered,
+        Printing::Printed(octets) => gathered + octets,
+        Printing::Refused(_) => gathered,
     }
 }
 

@@ -2,29 +2,23 @@
 -- Assumes nothing.
 use mathlib.Core.Path.{_≡_, refl, sym, ap, _∙_}
 use mathlib.Core.Logic.{⊎-elim}
-use Prim.Native.Nat.{ℕ, zero, suc, _+_, _-_, _/_, _%_, _^_, _≤_, _<_}
+use Prim.Native.Nat.{ℕ, zero, suc, _+_, _-_, _/_, _^_, _≤_, _<_}
 use native.Mathlib.Nat.{zero-add, add-zero, add-assoc, sub-zero, add-sub-of-le, sub-eq-zero-of-le}
 use native.Mathlib.Numerals.{add-one}
 use native.Mathlib.Omega.{arith}
-use mathlib.Core.Bool.{_&&_}
 use mathlib.Core.List.{List, [], _∷_, _++_, append-nil, append-assoc}
-use lib.ListN.{length, getD, set, take, drop, replicate, take-append-drop, length-append, length-drop, length-take, length-set, length-replicate, drop-of-length-le, List·getD-eq-default, List·getD-append}
-use lib.Seq.{take-all, take-take, take-append-seam, take-suc, drop-append-seam, set-append-seam, drop-append-add, drop-append-le, drop-drop, drop-cons, set-split, set-out, length-take-le, take-at, drop-at, set-append-left, getD-drop, getD-take, ext-getD}
+use lib.ListN.{length, getD, set, take, drop, replicate, take-append-drop, length-append, length-drop, length-take, length-replicate, drop-of-length-le, List·getD-eq-default}
+use lib.Seq.{take-all, take-take, take-append-seam, take-suc, drop-append-seam, set-append-seam, drop-append-add, drop-append-le, drop-drop, drop-cons, set-split, set-out, length-take-le, take-at, drop-at, getD-drop, getD-take, ext-getD}
 use lib.Dec.{T, eqb, eqb→eq}
 use borrow.Author.Tests.{le-leb, lt-leb}
 use Rattle.octets.specs.Choice.{same}
 use Rattle.octets.specs.Buffer.{over, putAt, zerosFrom, padded}
-use Rattle.octets.specs.Big.{bigAt, bigOf}
+use Rattle.octets.specs.Big.{bigOf}
 use Rattle.octets.proofs.Choice.{le-or-lt, test-eq, same-eq, eq-same, every-getD, getD-every, every-replicate}
-use Rattle.octets.proofs.Big.{length-bigOf, bigOf-add, bigAt-put}
+use Rattle.octets.proofs.Big.{length-bigOf, bigOf-add}
 use Rattle.octets.proofs.Lists.{drop-replicate}
 
 -- ---- a buffer overwritten from its front
-
--- octets that fit leave the length as it was
-pub length-over : (xs s : List ℕ) → length xs ≤ length s → length (over xs s) ≡ length s
-unfolding over
-length-over xs s h = simp (length-append, length-drop) (omega arith)
 
 -- the octets stand in front
 pub take-over : (xs s : List ℕ) → take (length xs) (over xs s) ≡ xs
@@ -90,13 +84,6 @@ take-putAt s at xs =
 length-put : (s : List ℕ) (at : ℕ) (xs : List ℕ) → at + length xs ≤ length s → length (take at s ++ xs) ≡ at + length xs
 length-put s at xs h = simp (length-append, length-take-le at s (omega arith))
 
--- what stands past the octets is left alone
-pub drop-putAt : (s : List ℕ) (at : ℕ) (xs : List ℕ) → drop (at + length xs) (putAt s at xs) ≡ drop (at + length xs) s
-drop-putAt s at xs =
-    putAt-cases (λ r. drop (at + length xs) r ≡ drop (at + length xs) s) s at xs
-    (λ h. drop-at (take at s ++ xs) (drop (at + length xs) s) (at + length xs) (length-put s at xs h))
-    (λ h. refl)
-
 -- octets put just past the last ones
 pub putAt-then : (s : List ℕ) (at : ℕ) (xs ys : List ℕ) → at + length xs + length ys ≤ length s
     → putAt (putAt s at xs) (at + length xs) ys ≡ putAt s at (xs ++ ys)
@@ -156,12 +143,6 @@ pub over-putAt : (xs s : List ℕ) → length xs ≤ length s → over xs s ≡ 
 unfolding over
 over-putAt xs s h = rw (putAt-fits s 0 xs (omega arith), zero-add)
 
--- octets put just past those that it is overwritten by
-pub putAt-over : (xs ys s : List ℕ) → length xs + length ys ≤ length s → putAt (over xs s) (length xs) ys ≡ over (xs ++ ys) s
-putAt-over xs ys s h =
-    rw (over-putAt xs s (omega arith), over-putAt (xs ++ ys) s (simp length-append h))
-    (rw zero-add at (putAt-then s 0 xs ys (omega arith)))
-
 -- a store just before octets that were put
 pub set-before-putAt : (s : List ℕ) (at y : ℕ) (zs : List ℕ) → at + 1 + length zs ≤ length s
     → set (putAt s (at + 1) zs) at y ≡ putAt s at (y ∷ zs)
@@ -196,23 +177,7 @@ pub putAt-bigOf-add : (v w : ℕ) (s : List ℕ) (at n : ℕ) → at + v + w ≤
 putAt-bigOf-add v w s at n h =
     rw (bigOf-add v w n) (rw length-bigOf at (putAt-then s at (bigOf v (n / 256 ^ w)) (bigOf w n) (simp length-bigOf h)))
 
--- what is put reads back
-pub bigAt-putAt : (w : ℕ) (s : List ℕ) (at n : ℕ) → at + w ≤ length s → bigAt w (putAt s at (bigOf w n)) at ≡ n % 256 ^ w
-bigAt-putAt w s at n h =
-    rw (putAt-fits s at (bigOf w n) (simp length-bigOf h))
-    (rw (length-take-le at s (omega arith)) at (bigAt-put w n (take at s) (drop (at + length (bigOf w n)) s)))
-
 -- ---- zeros to the end
-
--- nothing stands at or past the end
-pub zerosFrom-end : (s : List ℕ) (at : ℕ) → length s ≤ at → T (zerosFrom s at)
-unfolding zerosFrom
-zerosFrom-end s at h = rw (drop-of-length-le s h) tt
-
--- how a loop that goes up tests them
-pub zerosFrom-step : (s : List ℕ) (at : ℕ) → at < length s → zerosFrom s at ≡ (eqb (getD s at 0) 0 && zerosFrom s (at + 1))
-unfolding zerosFrom
-zerosFrom-step s at h = rw (add-one, drop-cons s at 0 h)
 
 -- each octet from the place on is zero
 pub zerosFrom-getD : (s : List ℕ) (at i : ℕ) → T (zerosFrom s at) → at ≤ i → getD s i 0 ≡ 0
@@ -230,11 +195,6 @@ unfolding zerosFrom
 getD-zerosFrom s at h =
     getD-every (λ (x : ℕ). eqb x 0) (drop at s) 0
     (λ i l. rw (getD-drop, h (at + i) (omega arith) (omega (arith, length-drop at s))) tt)
-
--- what is put in front leaves the zeros past it alone
-pub zerosFrom-over : (xs s : List ℕ) → zerosFrom (over xs s) (length xs) ≡ zerosFrom s (length xs)
-unfolding zerosFrom
-zerosFrom-over xs s = rw drop-over
 
 -- ---- a list filled up to n elements
 
@@ -274,19 +234,10 @@ module _ {ℓ} {A : Type ℓ} (n : ℕ) (a : A) where
   unfolding padded
   drop-padded xs = drop-append-seam xs (replicate (n - length xs) a)
 
-  -- an index among the elements
-  pub getD-padded-below : (xs : List A) (i : ℕ) (d : A) → i < length xs → getD (padded n a xs) i d ≡ getD xs i d
-  unfolding padded
-  getD-padded-below xs i d h = List·getD-append xs (replicate (n - length xs) a) d i h
-
   -- what fills it up is the default
   pub getD-padded : (xs : List A) (i : ℕ) → getD (padded n a xs) i a ≡ getD xs i a
   unfolding padded
   getD-padded xs i = getD-append-replicate xs (n - length xs) i a
-
-  -- an index past them
-  pub getD-padded-past : (xs : List A) (i : ℕ) → length xs ≤ i → getD (padded n a xs) i a ≡ a
-  getD-padded-past xs i h = getD-padded xs i ∙ List·getD-eq-default xs a h
 
   -- a store just past the elements
   pub set-padded : (xs : List A) (y : A) → length xs < n → set (padded n a xs) (length xs) y ≡ padded n a (xs ++ (y ∷ []))
@@ -294,11 +245,6 @@ module _ {ℓ} {A : Type ℓ} (n : ℕ) (a : A) where
   set-padded xs y h =
       let e : n - length xs ≡ suc (n - (length xs + 1)) = omega arith in
       rw (e, set-append-seam, length-append, append-assoc)
-
-  -- a store among them
-  pub set-padded-below : (xs : List A) (i : ℕ) (y : A) → i < length xs → set (padded n a xs) i y ≡ padded n a (set xs i y)
-  unfolding padded
-  set-padded-below xs i y h = rw (set-append-left xs (replicate (n - length xs) a) i y h, length-set)
 
 -- zeros fill up a list of octets
 pub zerosFrom-padded : (n : ℕ) (xs : List ℕ) → T (zerosFrom (padded n 0 xs) (length xs))

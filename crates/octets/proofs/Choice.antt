@@ -250,11 +250,7 @@ every-both p xs ys t u = rw every-append (T-and (every p xs) (every p ys) t u)
 -- ---- front: the longest front of which a test holds
 
 module _ (p : ℕ → Bool) where
-  -- an element that passes is part of the front
-  pub front-cons-true : (x : ℕ) (xs : List ℕ) → p x ≡ true → front p (x ∷ xs) ≡ x ∷ front p xs
-  front-cons-true x xs e = rw e
-
-  -- one that fails ends it
+  -- an element that fails ends the front
   pub front-cons-false : (x : ℕ) (xs : List ℕ) → p x ≡ false → front p (x ∷ xs) ≡ []
   front-cons-false x xs e = rw e
 
@@ -306,7 +302,7 @@ module _ (p : ℕ → Bool) where
       → front p (drop at s) ≡ getD s at 0 ∷ front p (drop (at + 1) s)
   front-drop-true s at h e = rw (add-one, drop-cons s at 0 h, e)
 
-  -- one that fails ends it
+  -- an element that fails ends the front
   pub front-drop-false : (s : List ℕ) (at : ℕ) → at < length s → p (getD s at 0) ≡ false → front p (drop at s) ≡ []
   front-drop-false s at h e = rw (drop-cons s at 0 h, e)
 

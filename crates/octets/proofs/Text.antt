@@ -134,10 +134,6 @@ value-decimal =
     (λ n h. rw (decimal-small n h) (omega arith))
     (λ n h r. rw (decimal-large n h, value-snoc 0 (decimal (n / 10)), r) (omega arith))
 
--- so numbers with the same digits are the same
-pub decimal-inj : (m n : ℕ) → decimal m ≡ decimal n → m ≡ n
-decimal-inj m n e = sym (value-decimal m) ∙ ap valueOf e ∙ value-decimal n
-
 -- each digit more makes the bound of a number ten times as large
 pub value-lt : (a : ℕ) (ds : List ℕ) → T (every digit ds) → valueFrom a ds < (a + 1) * 10 ^ length ds
 value-lt a [] t = rw (pow-zero, mul-one) (omega arith)

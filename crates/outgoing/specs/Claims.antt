@@ -1,7 +1,7 @@
 -- What is claimed of the packets of answers beyond the functions. Each has its proof under proofs/. Assumes nothing.
 use mathlib.Core.Path.{_≡_}
 use Prim.Native.Nat.{ℕ, _≤_, _<_}
-use mathlib.Core.Bool.{Bool, true, false}
+use mathlib.Core.Bool.{false}
 use mathlib.Core.List.{List, [], _∷_}
 use mathlib.Core.Option.{Option, none, some}
 use lib.ListN.{length}
@@ -10,16 +10,15 @@ use Rattle.sheet.specs.declared.Sheet.{Sheet}
 use Rattle.sheet.specs.Value.{validWith}
 use Rattle.packet.specs.Kind.{numbersOf}
 use Rattle.packet.specs.Reading.{readOf}
-use Rattle.plan.specs.Meaning.{Value, nothing, numeral, spelt, Meaning, meaning}
-use Rattle.plan.specs.Packet.{within}
+use Rattle.packet.specs.Meaning.{Value, nothing, numeral, spelt, Meaning, meaning}
 use Rattle.writing.specs.Canonical.{canonical}
 use Rattle.writing.specs.Claims.{areOctets}
-use Rattle.streams.specs.declared.What.{What}
 use Rattle.streams.specs.declared.Answer.{Answer}
 use Rattle.streams.specs.declared.Answer.the-variants.{GrantedFirst, Granted, GrantedAgain, Rejected, Ended, EndedLast, Opened, EndRequested, Freed, FreedWithAck, ReleasedIdle, ReleasedWatched, ReleasedEnding, Discarded}
-use Rattle.streams.specs.Answer.{Sent, messageOf}
+use Rattle.streams.specs.Answer.{messageOf}
 use Rattle.reception.specs.Steps.{gives, refuses}
 use Rattle.sheet.specs.Find.{userOf}
+use Rattle.rows.specs.Claims.{Narrow}
 use Rattle.outgoing.specs.Sending.{sendingOf}
 
 -- a message of the server's, which asks for no Ack
@@ -49,24 +48,16 @@ SendsNamed =
     (s : Sheet) (users : List (List ℕ)) (stream room : ℕ) (a : Answer) (p : List ℕ) → sendingOf s users stream (messageOf a) room ≡ gives (some p)
     → T (areOctets p) × T (canonical (numbersOf s) p) × (meaning p (readOf s p) ≡ messageFor s (userOf users stream) a)
 
--- the cause of a message, if it has one, goes into 16 bits, as the code's type says
-abbrev pub narrow : Option Sent → Bool
-narrow none = true
-narrow (some m) = short (m .cause)
-  where
-    short : Option ℕ → Bool
-    short none = true
-    short (some cause) = within 2 cause
-
 -- what is written into so much room: the packet, or 11 where it is longer
 pub record SentInto (s : Sheet) (users : List (List ℕ)) (stream : ℕ) (a : Answer) (p : List ℕ) (room : ℕ) : Type 0 where
   pub fits : length p ≤ room → sendingOf s users stream (messageOf a) room ≡ gives (some p)
   pub short : room < length p → sendingOf s users stream (messageOf a) room ≡ refuses 11 0
 
--- Under a valid sheet, on a stream of it, an answer that sends a message has one packet, whatever the room; and one that sends none needs none.
+-- Under a valid sheet, on a stream of it, an answer that sends a message has one packet, whatever the room, and one that sends none needs none. A cause has 16
+-- bits, as the code's type says.
 abbrev pub SendsExactly : Type 0
 SendsExactly =
-    (s : Sheet) (users : List (List ℕ)) (stream : ℕ) (a : Answer) → T (validWith s users) → stream < s .seats → T (narrow (messageOf a))
+    (s : Sheet) (users : List (List ℕ)) (stream : ℕ) (a : Answer) → T (validWith s users) → stream < s .seats → Narrow (messageOf a)
     → ((m : Meaning) → messageFor s (userOf users stream) a ≡ some m → (p : List ℕ) × ((room : ℕ) → SentInto s users stream a p room))
     × (messageFor s (userOf users stream) a ≡ none → (room : ℕ) → sendingOf s users stream (messageOf a) room ≡ gives none)
 

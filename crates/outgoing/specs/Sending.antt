@@ -1,26 +1,22 @@
 -- The packet that an answer sends (document 01, "Stream record": "Messages out carry the server's SSRC, no Indicator, and the first subtype bit
 -- clear by default. An end response names the transmitter's User ID"; "Refusals": 12 line 0, 9, 11). Assumes nothing.
-use mathlib.Core.Path.{_≡_}
 use Prim.Native.Nat.{ℕ}
 use mathlib.Core.Bool.{false}
 use mathlib.Core.List.{List, [], _∷_}
 use mathlib.Core.Option.{Option, none, some}
-use lib.ListN.{length}
 use lib.Dec.{eqb}
 use Rattle.octets.specs.Choice.{pick}
-use Rattle.octets.specs.Buffer.{over}
 use Rattle.sheet.specs.declared.Sheet.{Sheet}
 use Rattle.sheet.specs.Value.{validWith}
+use Rattle.sheet.specs.Find.{userOf}
 use Rattle.packet.specs.Kind.{numbersOf}
-use Rattle.plan.specs.Meaning.{Value, nothing, numeral, spelt, Meaning}
+use Rattle.packet.specs.Meaning.{Value, nothing, numeral, spelt, Meaning}
 use Rattle.plan.specs.Packet.{packetOf}
 use Rattle.writing.specs.Writing.{Made, made, refused, roomFor}
 use Rattle.streams.specs.Record.{rulesOf, onSheet}
-use Rattle.streams.specs.Answer.{Sent}
-use Rattle.reception.specs.Steps.{Said, gives, refuses, check, refusalSaid}
-use Rattle.outgoing.specs.declared.Sending.{Sending}
-use Rattle.outgoing.specs.declared.Sending.the-variants.{Written, Nothing, Refused}
-use Rattle.sheet.specs.Find.{userOf}
+use Rattle.streams.specs.declared.Answer.{Answer}
+use Rattle.streams.specs.Answer.{Sent, messageOf}
+use Rattle.reception.specs.Steps.{Said, gives, refuses, check}
 
 -- ---- the message
 
@@ -53,7 +49,7 @@ Parcel = Said (Option (List ℕ))
 
 abbrev pub parcel : Made → Parcel
 parcel (made p) = gives (some p)
-parcel (refused number at) = refuses number at
+parcel (refused number) = refuses number 0
 
 -- 11: "output shorter than the packet"; an answer that sends nothing needs no room
 unfoldable pub parcelOf : Sheet → List ℕ → ℕ → Option Sent → Parcel
@@ -65,24 +61,15 @@ unfoldable pub sendingOf : Sheet → List (List ℕ) → ℕ → Option Sent →
 sendingOf s users stream message room =
     check (validWith s users) 12 (check (onSheet (rulesOf s) stream) 9 (parcelOf s (userOf users stream) room message))
 
--- ---- what is answered, and what the buffer holds
+-- the same of the answer that a row stands for; 9 too where it stands for none
+unfoldable pub sendingIn : Sheet → List (List ℕ) → ℕ → Option Answer → ℕ → Parcel
+sendingIn s users stream none room = check (validWith s users) 12 (refuses 9 0)
+sendingIn s users stream (some a) room = sendingOf s users stream (messageOf a) room
 
-unfoldable pub told : Parcel → Said (Option ℕ)
-told (gives none) = gives none
-told (gives (some p)) = gives (some (length p))
-told (refuses number at) = refuses number at
+-- ---- what goes into the buffer
 
-abbrev pub sendingSaid : Sending → Said (Option ℕ)
-sendingSaid (Written octets) = gives (some octets)
-sendingSaid Nothing = gives none
-sendingSaid (Refused r) = refusalSaid r
-
--- "leaves octets past the packet's end alone"; a refusal "changes no lent octet"
-unfoldable pub after : Parcel → List ℕ → List ℕ
-after (gives none) out = out
-after (gives (some p)) out = over p out
-after (refuses number at) out = out
-
--- the answer tells what comes of it, and the buffer, which held `out`, is as that leaves it
-abbrev pub Tells : Parcel → List ℕ → Sending → List ℕ → Type 0
-Tells w out r now = (sendingSaid r ≡ told w) × (now ≡ after w out)
+-- no octets where nothing is sent
+abbrev pub octetsOut : Parcel → Made
+octetsOut (gives none) = made []
+octetsOut (gives (some p)) = made p
+octetsOut (refuses number line) = refused number

@@ -10,3 +10,5 @@ pub mod Values
 pub mod Slots
 pub mod Places
 pub mod Judged
+pub mod Found
+pub mod Rows

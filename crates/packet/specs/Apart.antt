@@ -14,9 +14,12 @@ use Rattle.packet.specs.declared.Message.{Message}
 use Rattle.packet.specs.declared.Message.the-variants.{ReceiveRequest, ReceiveResponse, EndRequest, EndResponse, TransmissionEnd, TransmissionEndResponse, Ack}
 use Rattle.packet.specs.declared.Reading.{Reading}
 use Rattle.packet.specs.declared.Reading.the-variants.{Read, Refused}
+use Rattle.packet.specs.declared.Asked.{Asked}
+use Rattle.packet.specs.declared.Asked.the-variants.{Request, End, EndResponse, Nothing, Refused as AskedRefused}
 use Rattle.packet.specs.Judge.{Held, absent, given, named}
 use Rattle.packet.specs.Reading.{Outcome, reads, refused}
 use Rattle.packet.specs.Message.{messageSaid, readSaid}
+use Rattle.packet.specs.Asked.{Asks, request, end, endResponse, nothing, refusal, askedSaid}
 
 -- ---- a value got back
 
@@ -78,6 +81,20 @@ message-back (TransmissionEnd h cause (Given n)) = refl
 message-back (TransmissionEndResponse h) = refl
 message-back (Ack h source about) = refl
 
+abbrev askedBack : Asks → Asked
+askedBack (request ssrc user source) = Request ssrc (nameBack user) (nameBack source)
+askedBack (end ssrc transmitter) = End ssrc (nameBack transmitter)
+askedBack (endResponse ssrc ack) = EndResponse (record { ssrc = ssrc; ack = ack })
+askedBack nothing = Nothing
+askedBack (refusal number at) = AskedRefused (record { number = number; at = at })
+
+asked-back : (x : Asked) → askedBack (askedSaid x) ≡ x
+asked-back (Request ssrc user source) = refl
+asked-back (End ssrc transmitter) = refl
+asked-back (EndResponse h) = refl
+asked-back Nothing = refl
+asked-back (AskedRefused r) = refl
+
 read-back : (r : Reading) → readBack (readSaid r) ≡ r
 read-back (Read m) = message-back m
 read-back (Refused r) = refl
@@ -94,3 +111,7 @@ message-apart x y e = inside (sym (message-back x) ∙ ap readBack e ∙ message
 -- of answers to a packet
 pub reading-apart : (x y : Reading) → readSaid x ≡ readSaid y → x ≡ y
 reading-apart x y e = sym (read-back x) ∙ ap readBack e ∙ read-back y
+
+-- of what packets ask
+pub asked-apart : (x y : Asked) → askedSaid x ≡ askedSaid y → x ≡ y
+asked-apart x y e = sym (asked-back x) ∙ ap askedBack e ∙ asked-back y

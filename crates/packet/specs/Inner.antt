@@ -1,8 +1,8 @@
 -- What the inner functions say of the octets and places that they look at. The public promises rest on these, and nobody need
 -- believe them: each is only a step of a proof. Assumes nothing.
 use mathlib.Core.Path.{_≡_}
-use Prim.Native.Nat.{ℕ, zero, suc, _+_, _-_, _≤_}
-use mathlib.Core.Bool.{Bool, false, _&&_, _||_}
+use Prim.Native.Nat.{ℕ, zero, suc, _+_, _-_, _≤_, _<_}
+use mathlib.Core.Bool.{Bool, true, false, not, _&&_, _||_}
 use mathlib.Core.List.{List, [], _∷_, map}
 use mathlib.Core.Option.{Option, none, some}
 use lib.ListN.{length, getD, getElem?}
@@ -14,14 +14,25 @@ use Rattle.fields.specs.declared.field.Field.{Field}
 use Rattle.fields.specs.Header.{firstField, ssrcIn, ackAsked}
 use Rattle.fields.specs.Walk.{fieldsOf, stopFrom}
 use Rattle.packet.specs.declared.Head.{Head}
+use Rattle.packet.specs.declared.Name.{Name}
+use Rattle.packet.specs.declared.Indicator.{Indicator}
+use Rattle.packet.specs.declared.Indicator.the-variants.{Absent, Given}
+use Rattle.packet.specs.declared.Verdict.{Verdict}
+use Rattle.packet.specs.declared.Verdict.the-variants.{Granted, Rejected}
+use Rattle.packet.specs.declared.Message.{Message}
+use Rattle.packet.specs.declared.Message.the-variants.{ReceiveRequest, ReceiveResponse, EndRequest, EndResponse, TransmissionEnd, TransmissionEndResponse, Ack}
 use Rattle.packet.specs.declared.Numbers.{Numbers}
 use Rattle.packet.specs.declared.kind.Form.the-variants.{Barred}
 use Rattle.packet.specs.declared.kind.Slot.{Slot}
+use Rattle.packet.specs.declared.found.Found.{Found}
 use Rattle.packet.specs.declared.judge.Judged.{Judged}
 use Rattle.packet.specs.declared.judge.Use.{Use}
 use Rattle.packet.specs.declared.judge.Use.the-variants.{Fills, Repeats, Skipped}
 use Rattle.packet.specs.Kind.{Kind, kinds, slotsOf}
 use Rattle.packet.specs.Judge.{Held, absent, given, named, Filled, filledIn, faultOf}
+use Rattle.packet.specs.Reading.{Outcome, refused}
+use Rattle.packet.specs.Message.{headed}
+use Rattle.packet.specs.Row.{noNumber, flag}
 
 abbrev pub headIn : List ℕ → Head
 headIn p = record { ssrc = ssrcIn p; ack = ackAsked p }
@@ -143,3 +154,64 @@ valuesFrom kind p places =
     ∷ [])
     (kind - 1)
     []
+
+-- ---- what a packet was found to be
+
+-- a refusal, beside zeros
+abbrev pub noneFound : ℕ → Found
+noneFound number = record { refusal = number; kind = 0; head = record { ssrc = 0; ack = false }; places = 0 ∷ 0 ∷ 0 ∷ [] }
+
+-- the message that it is, or the refusal
+abbrev pub readFrom : List ℕ → Found → Outcome
+readFrom p f = pick (eqb (f .refusal) 0) (headed (f .kind) (f .head) (valuesFrom (f .kind) p (f .places))) (refused (f .refusal) 0)
+
+-- one of the seven kinds, its fields inside
+pub record Sorted (p : List ℕ) (f : Found) : Type 0 where
+  pub above : 0 < f .kind
+  pub below : f .kind < 8
+  pub most : length p ≤ 256
+  pub inside : PlacesInside p (f .places)
+
+-- a packet that reads so was found to be this
+pub record FoundIs (p : List ℕ) (o : Outcome) (f : Found) : Type 0 where
+  pub told : readFrom p f ≡ o
+  pub sorted : f .refusal ≡ 0 → Sorted p f
+
+-- ---- a message as a row
+
+abbrev pub indicatorNumber : Indicator → ℕ
+indicatorNumber Absent = noNumber
+indicatorNumber (Given n) = n
+
+abbrev pub resultNumber : Verdict → ℕ
+resultNumber Granted = 1
+resultNumber (Rejected cause) = 0
+
+abbrev pub causeNumber : Verdict → ℕ
+causeNumber Granted = noNumber
+causeNumber (Rejected cause) = cause
+
+abbrev pub rowWith : ℕ → Head → Name → Name → ℕ → ℕ → ℕ → ℕ → ℕ → List ℕ
+rowWith kind h user transmitter result cause indicator source about =
+    kind ∷ h .ssrc ∷ flag (h .ack) ∷ user .at ∷ user .len ∷ transmitter .at ∷ transmitter .len ∷ result ∷ cause ∷ indicator ∷ source ∷ about ∷ []
+
+-- its numbers are none of them MCV_NONE
+abbrev pub isNumber : ℕ → Bool
+isNumber n = not (eqb n noNumber)
+
+abbrev pub isIndicator : Indicator → Bool
+isIndicator Absent = true
+isIndicator (Given n) = isNumber n
+
+abbrev pub isVerdict : Verdict → Bool
+isVerdict Granted = true
+isVerdict (Rejected cause) = isNumber cause
+
+unfoldable pub isMessage : Message → Bool
+isMessage (ReceiveRequest h user source i) = isIndicator i
+isMessage (ReceiveResponse h v i) = isVerdict v && isIndicator i
+isMessage (EndRequest h transmitter i) = isIndicator i
+isMessage (EndResponse h transmitter) = true
+isMessage (TransmissionEnd h cause i) = isNumber cause && isIndicator i
+isMessage (TransmissionEndResponse h) = true
+isMessage (Ack h source about) = isNumber source && isNumber about

@@ -2,6 +2,9 @@ pub mod Kind
 pub mod Judge
 pub mod Reading
 pub mod Message
+pub mod Asked
+pub mod Row
+pub mod Meaning
 pub mod Inner
 pub mod Apart
 pub mod Promises

@@ -1,9 +1,13 @@
 // RTCP APP packets of MCVideo (document 01, "Packet"; RFC 3550, 6.7), read as one of seven messages.
 pub mod codes;
+mod found;
 mod judge;
 mod kind;
+pub mod row;
 mod values;
 
+use found::Found;
+use found::found_by;
 use sheet::Refusal;
 use sheet::Sheet;
 use sheet::numbers::ACK;
@@ -17,13 +21,13 @@ use sheet::numbers::TX_END;
 use sheet::numbers::TX_END_RESPONSE;
 use sheet::numbers::are_valid;
 ghost use mathlib.Core.Path.{_≡_};
-ghost use Prim.Native.Nat.{_<_};
 ghost use Rattle.sheet.specs.Value.{sheetIn};
 ghost use Rattle.packet.specs.Kind.{numbersOf};
-ghost use Rattle.packet.specs.Reading.{refused, readAs};
+ghost use Rattle.packet.specs.Reading.{refused, readBy};
 ghost use Rattle.packet.specs.Message.{readSaid};
-ghost use Rattle.packet.specs.Inner.{headIn, Walked, kindNumbered};
-ghost use Rattle.packet.specs.Promises.{numbers-of≡, read-by≡, read≡};
+ghost use Rattle.packet.specs.Asked.{asksOf, askedSaid};
+ghost use Rattle.packet.specs.Inner.{FoundIs, Sorted, readFrom};
+ghost use Rattle.packet.specs.Promises.{numbers-of≡, read-by≡, read≡, asked≡};
 
 // What the reader looks at of a sheet.
 pub struct Numbers {
@@ -116,6 +120,16 @@ pub enum Reading {
     Refused(Refusal),
 }
 
+// What a packet asks of the controller: of the kinds that make an event, what the event goes by; nothing, for a message of another kind; or why it is
+// no message.
+pub enum Asked {
+    Request { ssrc: u32, user: Name, source: Name },
+    End { ssrc: u32, transmitter: Name },
+    EndResponse { head: Head },
+    Nothing,
+    Refused(Refusal),
+}
+
 // What the reader looks at of a sheet.
 pub fn numbers_of(sheet: Sheet) -> Numbers
     ensures { λ r. ⌜ numbers-of≡ sheet r ⌝ }
@@ -158,44 +172,31 @@ fn refused(number: u32) -> Reading
     Reading::Refused(Refusal { number, at: 0 })
 }
 
-// The message of a packet of this kind whose walk is whole, or 5.
-fn read_kind(numbers: Numbers, packet: &[u8], kind: u32, head: Head) -> Reading
-    requires { ⌜ (0 < kind) × (kind < 8) × Walked (now packet) × (head ≡ headIn (now packet)) ⌝ }
-    ensures { λ r. ⌜ readSaid r ≡ readAs numbers (now (packet .entry)) (kindNumbered numbers kind) ⌝ }
+// The message that a packet was found to be.
+fn told(packet: &[u8], found: Found) -> Reading
+    requires { ⌜ (found .refusal ≡ 0 → Sorted (now packet) found) ⌝ }
+    ensures { λ r. ⌜ readSaid r ≡ readFrom (now (packet .entry)) found ⌝ }
 {
-    let granted = judge::is_granted(packet, kind, numbers.resultid);
-    let judged = judge::judge(packet, kind::slots_of(numbers, kind, granted));
-    if judged.fault != 0 {
-        return refused(5);
+    if found.refusal != 0 {
+        return refused(found.refusal);
     }
-    let places = judged.places;
-    Reading::Read(values::message_of(packet, kind, head, places))
+    let head = found.head;
+    let places = found.places;
+    Reading::Read(values::message_of(packet, found.kind, head, places))
 }
 
 // Reads a packet under these numbers: a message, or 1, 2, 3, 4 or 5, checked in that order. Whether a sheet has them is not asked.
 pub fn read_by(numbers: Numbers, packet: &[u8]) -> Reading
     ensures { λ r. ⌜ read-by≡ numbers (now (packet .entry)) r ⌝ }
 {
-    let failed = fields::header::failed_check(packet);
-    if failed != 0 {
-        return refused(failed);
-    }
-    let head = values::head_of(packet);
-    let kind = kind::kind_of(numbers, packet);
-    if kind == 0 {
-        return refused(3);
-    }
-    if fields::walk::walk(packet, fields::codes::FIRST_FIELD) < packet.len() {
-        return refused(4);
-    }
-    read_kind(numbers, packet, kind, head)
+    told(packet, found_by(numbers, packet))
 }
 
-// The same, a sheet's numbers lent.
-pub fn read_by_lent(numbers: &[u32], packet: &[u8]) -> Reading
-    ensures { λ r. ⌜ read-by≡ (numbersOf (sheetIn (now (numbers .entry)))) (now (packet .entry)) r ⌝ }
+// What a packet is under a sheet's numbers, lent.
+fn found_lent(numbers: &[u32], packet: &[u8]) -> Found
+    ensures { λ r. ⌜ FoundIs (now (packet .entry)) (readBy (numbersOf (sheetIn (now (numbers .entry)))) (now (packet .entry))) r ⌝ }
 {
-    read_by(numbers_in(&numbers[..]), &packet[..])
+    found_by(numbers_in(&numbers[..]), &packet[..])
 }
 
 // Reads a packet, a sheet's numbers lent: a message, or 12 line 0, 1, 2, 3, 4 or 5, checked in that order.
@@ -205,7 +206,7 @@ pub fn read_lent(numbers: &[u32], packet: &[u8]) -> Reading
     if !are_valid(numbers) {
         return refused(12);
     }
-    read_by_lent(numbers, packet)
+    told(packet, found_lent(numbers, packet))
 }
 
 // The same, the sheet by value.
@@ -214,4 +215,27 @@ pub fn read(sheet: Sheet, packet: &[u8]) -> Reading
 {
     let numbers = sheet::numbers::numbers_of(sheet);
     read_lent(&numbers[..], packet)
+}
+
+// What a packet asks for that was found to be this.
+fn asking(packet: &[u8], found: Found) -> Asked
+    requires { ⌜ (found .refusal ≡ 0 → Sorted (now packet) found) ⌝ }
+    ensures { λ r. ⌜ askedSaid r ≡ asksOf (readFrom (now (packet .entry)) found) ⌝ }
+{
+    if found.refusal != 0 {
+        return Asked::Refused(Refusal {
+            number: found.refusal,
+            at: 0,
+        });
+    }
+    let head = found.head;
+    let places = found.places;
+    values::asked_of(packet, found.kind, head, places)
+}
+
+// What a packet asks of the controller, a sheet's numbers lent, or 1, 2, 3, 4 or 5. Whether a sheet has them is not asked.
+pub fn asked_lent(numbers: &[u32], packet: &[u8]) -> Asked
+    ensures { λ r. ⌜ asked≡ (numbersOf (sheetIn (now (numbers .entry)))) (now (packet .entry)) r ⌝ }
+{
+    asking(packet, found_lent(numbers, packet))
 }

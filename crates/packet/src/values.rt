@@ -1,4 +1,5 @@
 // The message of a packet, made from the places of its fields (document 01, "Packet").
+use super::Asked;
 use super::Head;
 use super::Indicator;
 use super::Message;
@@ -10,6 +11,7 @@ ghost use mathlib.Core.Path.{_≡_};
 ghost use Prim.Native.Nat.{_+_, _<_, _≤_};
 ghost use lib.ListN.{length};
 ghost use Rattle.packet.specs.Message.{nameSaid, indicatorSaid, resultSaid, causeSaid, headed, messageSaid};
+ghost use Rattle.packet.specs.Asked.{asksOf, askedSaid};
 ghost use Rattle.packet.specs.Inner.{headIn, PlacesInside, nameFrom, indicatorFrom, resultFrom, causeFrom, valuesFrom};
 
 // The name that is the value of the field at a place.
@@ -98,5 +100,25 @@ pub fn message_of(packet: &[u8], kind: u32, head: Head, places: Places) -> Messa
             source: number_at(packet, first),
             about: packet[second + 2],
         },
+    }
+}
+
+// What a message of this kind with its fields at these places asks of the controller.
+pub fn asked_of(packet: &[u8], kind: u32, head: Head, places: Places) -> Asked
+    requires { ⌜ (length (now packet) ≤ 256) × PlacesInside (now packet) places ⌝ }
+    ensures { λ r. ⌜ askedSaid r ≡ asksOf (headed kind head (valuesFrom kind (now (packet .entry)) places)) ⌝ }
+{
+    match kind {
+        1 => Asked::Request {
+            ssrc: head.ssrc,
+            user: name_at(packet, places[0]),
+            source: name_at(packet, places[1]),
+        },
+        3 => Asked::End {
+            ssrc: head.ssrc,
+            transmitter: name_at(packet, places[0]),
+        },
+        6 => Asked::EndResponse { head },
+        _ => Asked::Nothing,
     }
 }

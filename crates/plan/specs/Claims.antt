@@ -6,18 +6,17 @@ use mathlib.Core.Option.{some}
 use lib.ListN.{length}
 use lib.Dec.{T}
 use Rattle.sheet.specs.Value.{sheetFrom}
-use Rattle.packet.specs.declared.Message.{Message}
-use Rattle.packet.specs.Message.{messageSaid}
+use Rattle.packet.specs.Row.{messageIn}
 use Rattle.plan.specs.declared.Plan.{Plan}
-use Rattle.plan.specs.Meaning.{meaning}
+use Rattle.packet.specs.Meaning.{meaning}
 use Rattle.plan.specs.Packet.{packetFor, fitting}
 use Rattle.plan.specs.Plan.{planSaid, planOf, planRight, planOctets, planPacket, planSize}
 
--- Where a message has a plan, the numbers fit, each name is right, and the plan laid out is the packet of the message's meaning.
+-- Where the message of a row has a plan, the numbers fit, each name is right, and the plan laid out is the packet of the message's meaning.
 abbrev pub PlansThePacket : Type 0
 PlansThePacket =
-    (ns : List ℕ) (m : Message) (names : List ℕ) (plan : Plan) → planSaid plan ≡ planOf ns (messageSaid m) names
-    → T (fitting ns) × T (planRight names plan) × (packetFor (sheetFrom ns) (meaning names (messageSaid m)) ≡ some (planPacket names plan))
+    (ns message names : List ℕ) (plan : Plan) → planSaid plan ≡ planOf ns (messageIn message) names
+    → T (fitting ns) × T (planRight names plan) × (packetFor (sheetFrom ns) (meaning names (messageIn message)) ≡ some (planPacket names plan))
 
 -- Where its names are right, a plan's fields take as many octets as its size says.
 abbrev pub TakesItsSize : Type 0

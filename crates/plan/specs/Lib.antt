@@ -1,4 +1,3 @@
-pub mod Meaning
 pub mod Packet
 pub mod Plan
 pub mod Inner

@@ -18,7 +18,7 @@ use Rattle.packet.specs.declared.Numbers.{Numbers}
 use Rattle.packet.specs.declared.kind.Form.{Form}
 use Rattle.packet.specs.declared.kind.Form.the-variants.{UserId, Number, Cause, Result, MessageType, Barred}
 use Rattle.packet.specs.Kind.{Row, Kind, kinds, mayLack, mayHave, grants, numbersOf}
-use Rattle.plan.specs.Meaning.{Value, nothing, numeral, spelt, nowhere, Meaning}
+use Rattle.packet.specs.Meaning.{Value, nothing, numeral, spelt, nowhere, nameHeld, numberHeld, Meaning}
 
 -- ---- which values a kind takes
 
@@ -76,19 +76,6 @@ unfoldable pub writable : Kind → Meaning → Bool
 writable k m = within 4 (m .ssrc) && takesAll (grants isOne (k .rows) (m .values)) (k .rows) (m .values)
 
 -- ---- its octets
-
--- the name that a value is, and the number
-abbrev pub nameHeld : Value → List ℕ
-nameHeld nothing = []
-nameHeld (numeral n) = []
-nameHeld (spelt xs) = xs
-nameHeld nowhere = []
-
-abbrev pub numberHeld : Value → ℕ
-numberHeld nothing = 0
-numberHeld (numeral n) = n
-numberHeld (spelt xs) = 0
-numberHeld nowhere = 0
 
 -- "a 16-bit cause, then a phrase that is skipped; none is written"; "a value octet, a zero octet"
 unfoldable pub octetsFor : Form → Value → List ℕ

@@ -24,7 +24,7 @@ use Rattle.plan.specs.declared.Part.the-variants.{Absent, Word, Named}
 use Rattle.plan.specs.declared.Plan.{Plan}
 use Rattle.plan.specs.declared.Planned.{Planned}
 use Rattle.plan.specs.declared.Planned.the-variants.{Packet, Refused}
-use Rattle.plan.specs.Meaning.{meaning}
+use Rattle.packet.specs.Meaning.{meaning}
 use Rattle.plan.specs.Packet.{kindWith, firstOctet, withHeader, packetFor, fitting}
 
 -- ---- what an answer says

@@ -4,9 +4,8 @@ use mathlib.Core.Path.{_≡_, refl, sym, ap, _∙_}
 use Prim.Native.Nat.{ℕ}
 use mathlib.Core.List.{List}
 use Rattle.octets.specs.Promises.{one-answer, one-value}
-use Rattle.packet.specs.declared.Message.{Message}
 use Rattle.packet.specs.Judge.{Held, absent, given, named}
-use Rattle.packet.specs.Message.{messageSaid}
+use Rattle.packet.specs.Row.{messageIn}
 use Rattle.plan.specs.declared.Part.{Part}
 use Rattle.plan.specs.declared.Part.the-variants.{Absent, Word, Named}
 use Rattle.plan.specs.declared.Plan.{Plan}
@@ -49,13 +48,13 @@ planned-apart x y e = sym (planned-back x) ∙ ap plannedBack e ∙ planned-back
 
 -- ---- plan_of
 
--- the plan under these numbers, or the refusal
-abbrev pub plan-of≡ : List ℕ → Message → List ℕ → Planned → Type 0
-plan-of≡ numbers m names r = plannedSaid r ≡ planOf numbers (messageSaid m) names
+-- the plan of the message that a row stands for, under these numbers, or the refusal
+abbrev pub plan-of≡ : List ℕ → List ℕ → List ℕ → Planned → Type 0
+plan-of≡ numbers message names r = plannedSaid r ≡ planOf numbers (messageIn message) names
 
-pub plan-of-once : (numbers : List ℕ) (m : Message) (names : List ℕ) (x y : Planned)
-    → plan-of≡ numbers m names x → plan-of≡ numbers m names y → x ≡ y
-plan-of-once numbers m names x y e f = one-answer plannedSaid planned-apart x y e f
+pub plan-of-once : (numbers message names : List ℕ) (x y : Planned)
+    → plan-of≡ numbers message names x → plan-of≡ numbers message names y → x ≡ y
+plan-of-once numbers message names x y e f = one-answer plannedSaid planned-apart x y e f
 
 -- ---- sizes::field_size
 

@@ -1,11 +1,15 @@
 // The packet that a message is written as, before an octet of it is put: the header's values and the fields, or why there is none (document 01,
 // "Packet"; RFC 3550, 6.7).
 mod messages;
-mod parts;
+mod names;
 pub mod sizes;
+mod standing;
 
-use packet::Message;
 use packet::Name;
+use packet::row::NUMBERS;
+ghost use mathlib.Core.Path.{_≡_};
+ghost use mathlib.Core.Bool.{_&&_};
+ghost use Rattle.plan.specs.Inner.{isMessageRow, numbersFit};
 ghost use Rattle.plan.specs.Promises.{plan-of≡};
 
 // A field to be written: none, one that fills a word, or a User ID.
@@ -31,17 +35,29 @@ pub enum Planned {
     Refused(u32),
 }
 
-// The plan of a message whose names lie in `names`, under these numbers; or 12 line 0 where they go into no packet, or 5, checked in that order.
-// Whether a sheet has the numbers is not asked.
-pub fn plan_of(numbers: &[u32], message: Message, names: &[u8]) -> Planned
-    ensures { λ r. ⌜ plan-of≡ (now (numbers .entry)) message (now (names .entry)) r ⌝ }
+// Whether a row stands for a message whose numbers fit.
+fn stands(message: &[u32]) -> bool
+    ensures { λ r. ⌜ r ≡ (isMessageRow (now (message .entry)) && numbersFit (now (message .entry))) ⌝ }
+{
+    if message.len() != NUMBERS {
+        return false;
+    }
+    standing::is_row(message) & standing::fits(message)
+}
+
+// The plan of the message of a row (`packet::row`) whose names lie in `names`, under these numbers; or 12 line 0 where they go into no packet, or 5,
+// checked in that order. Whether a sheet has the numbers is not asked.
+pub fn plan_of(numbers: &[u32], message: &[u32], names: &[u8]) -> Planned
+    ensures { λ r. ⌜ plan-of≡ (now (numbers .entry)) (now (message .entry)) (now (names .entry)) r ⌝ }
 {
     if !messages::fit(numbers) {
         return Planned::Refused(12);
     }
-    let plan = messages::plan_for(numbers, message);
-    if !parts::are_right(plan, names) {
+    if !stands(message) {
         return Planned::Refused(5);
     }
-    Planned::Packet(plan)
+    if !names::are_right(message, names) {
+        return Planned::Refused(5);
+    }
+    Planned::Packet(messages::plan_for(numbers, message))
 }

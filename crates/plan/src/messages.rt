@@ -1,32 +1,32 @@
 // Each message as a packet: its letters, its number on the sheet, and its fields in the order written (document 01, "Packet").
 use super::Part;
 use super::Plan;
-use packet::Head;
-use packet::Indicator;
-use packet::Message;
-use packet::Verdict;
-use packet::codes::INDICATOR;
+use packet::Name;
+use packet::codes;
 use packet::codes::MCV0;
 use packet::codes::MCV1;
 use packet::codes::MCV2;
-use packet::codes::MESSAGE_TYPE;
-use packet::codes::REJECT_CAUSE;
-use packet::codes::SOURCE;
-use sheet::numbers::ACK;
-use sheet::numbers::END_REQUEST;
-use sheet::numbers::END_RESPONSE;
+use packet::row::ABOUT;
+use packet::row::ACK;
+use packet::row::CAUSE;
+use packet::row::INDICATOR;
+use packet::row::KIND;
+use packet::row::NAMED;
+use packet::row::NONE;
+use packet::row::RESULT;
+use packet::row::SOURCE;
+use packet::row::SSRC;
+use packet::row::USER;
 use sheet::numbers::LINES;
 use sheet::numbers::REQUEST;
-use sheet::numbers::RESPONSE;
 use sheet::numbers::RESULT_ID;
-use sheet::numbers::TX_END;
-use sheet::numbers::TX_END_RESPONSE;
 ghost use mathlib.Core.Path.{_≡_};
-ghost use Prim.Native.Nat.{_<_};
+ghost use Prim.Native.Nat.{ℕ, _+_, _<_, _≤_};
 ghost use lib.Dec.{T};
+ghost use lib.ListN.{length, getD};
 ghost use Rattle.sheet.specs.Value.{sheetFrom};
 ghost use Rattle.plan.specs.Packet.{firstOctet, fitting};
-ghost use Rattle.plan.specs.Inner.{numberPart, indicatorPart, resultPart, causePart, planWith, planFor, indicatorWithin, verdictWithin, inWidth};
+ghost use Rattle.plan.specs.Inner.{numberPart, optionalPart, namedPart, lettersFor, fieldsFor, planFor, indicatorFits, numbersFit, messageFrom};
 
 // Version 2 and padding bit 0, in the first octet.
 const PLAIN: u8 = 128;
@@ -36,6 +36,9 @@ const ASKING: u8 = PLAIN + 16;
 
 // A message's number goes into four bits.
 const NUMBER_END: u32 = 16;
+
+// The messages' numbers stand in the order of the kinds, behind this line.
+const BEFORE: usize = REQUEST - 1;
 
 // No ID is as great.
 const ID_END: u32 = fields::codes::ID_END as u32;
@@ -48,52 +51,33 @@ pub fn fit(numbers: &[u32]) -> bool
     if numbers.len() != LINES {
         return false;
     }
+    let mut good = numbers[RESULT_ID] < ID_END;
     let mut k = REQUEST;
     while k < RESULT_ID {
-        if NUMBER_END <= numbers[k] {
-            return false;
-        }
+        good = good & (numbers[k] < NUMBER_END);
         k += 1;
     }
-    numbers[RESULT_ID] < ID_END
+    good
 }
 
 // A field with a number: ID octet, length octet 2 and the number are one word.
-fn numbered(id: u32, number: u16) -> Part
-    requires { ⌜ id < 256 ⌝ }
+fn numbered(id: u32, number: u32) -> Part
+    requires { ⌜ (id < 256) × (number < 65536) ⌝ }
     ensures { λ r. ⌜ r ≡ numberPart id number ⌝ }
 {
-    Part::Word(id * 0x1000000 + 0x20000 + (number as u32))
+    Part::Word(id * 0x1000000 + 0x20000 + number)
 }
 
-// The Indicator, where there is one.
-fn indicator_part(indicator: Indicator) -> Part
-    ensures { λ r. ⌜ (r ≡ indicatorPart indicator) × T (indicatorWithin indicator) ⌝ }
+// The same of the number that stands here in a row, where there is one.
+fn optional(id: u32, message: &[u32], at: usize) -> Part
+    requires { ⌜ (id < 256) × (at < length (now message)) × T (indicatorFits (getD (now message) at 0)) ⌝ }
+    ensures { λ r. ⌜ r ≡ optionalPart id (getD (now (message .entry)) at 0) ⌝ }
 {
-    match indicator {
-        Indicator::Absent => Part::Absent,
-        Indicator::Given(number) => numbered(INDICATOR, number),
-    }
-}
-
-// The Result, whose ID is the sheet's.
-fn result_part(id: u32, verdict: Verdict) -> Part
-    requires { ⌜ id < 256 ⌝ }
-    ensures { λ r. ⌜ r ≡ resultPart id verdict ⌝ }
-{
-    match verdict {
-        Verdict::Granted => numbered(id, 1),
-        Verdict::Rejected(_) => numbered(id, 0),
-    }
-}
-
-// The Reject Cause, which stands beside Result 0 alone.
-fn cause_part(verdict: Verdict) -> Part
-    ensures { λ r. ⌜ (r ≡ causePart verdict) × T (verdictWithin verdict) ⌝ }
-{
-    match verdict {
-        Verdict::Granted => Part::Absent,
-        Verdict::Rejected(cause) => numbered(REJECT_CAUSE, cause),
+    let number = message[at];
+    if number == NONE {
+        Part::Absent
+    } else {
+        numbered(id, number)
     }
 }
 
@@ -109,103 +93,106 @@ fn start_of(ack: bool, number: u32) -> u8
     }
 }
 
-// A plan with these parts.
-fn plan_with(head: Head, letters: u32, number: u32, first: Part, second: Part, third: Part) -> Plan
-    requires { ⌜ number < 16 ⌝ }
-    ensures { λ r. ⌜ r ≡ planWith head letters number first second third ⌝ }
+// The letters of a kind.
+fn letters_of(kind: u32) -> u32
+    ensures { λ r. ⌜ r ≡ lettersFor kind ⌝ }
 {
-    Plan {
-        start: start_of(head.ack, number),
-        letters,
-        ssrc: head.ssrc,
-        first,
-        second,
-        third,
+    match kind {
+        1 => MCV0,
+        2 => MCV1,
+        _ => MCV2,
     }
 }
 
-// The plan of a message under these numbers.
-pub fn plan_for(numbers: &[u32], message: Message) -> Plan
-    requires { ⌜ T (fitting (now numbers)) ⌝ }
-    ensures { λ r. ⌜ (r ≡ planFor (sheetFrom (now (numbers .entry))) message) × T (inWidth message) ⌝ }
+// A field with the name whose place stands here in a row, and its length behind that.
+fn named(message: &[u32], at: usize) -> Part
+    requires { ⌜ at + 1 < length (now message) ⌝ }
+    ensures { λ r. ⌜ r ≡ namedPart (now (message .entry)) at ⌝ }
 {
-    match message {
-        Message::ReceiveRequest {
-            head,
-            user,
-            source,
-            indicator,
-        } => plan_with(
-            head,
-            MCV0,
-            numbers[REQUEST],
-            Part::Named(user),
-            Part::Named(source),
-            indicator_part(indicator),
-        ),
-        Message::ReceiveResponse {
-            head,
-            verdict,
-            indicator,
-        } => plan_with(
-            head,
-            MCV1,
-            numbers[RESPONSE],
-            result_part(numbers[RESULT_ID], verdict),
-            cause_part(verdict),
-            indicator_part(indicator),
-        ),
-        Message::EndRequest {
-            head,
-            transmitter,
-            indicator,
-        } => plan_with(
-            head,
-            MCV2,
-            numbers[END_REQUEST],
-            Part::Named(transmitter),
-            indicator_part(indicator),
-            Part::Absent,
-        ),
-        Message::EndResponse { head, transmitter } => plan_with(
-            head,
-            MCV2,
-            numbers[END_RESPONSE],
-            Part::Named(transmitter),
-            Part::Absent,
-            Part::Absent,
-        ),
-        Message::TransmissionEnd {
-            head,
-            cause,
-            indicator,
-        } => plan_with(
-            head,
-            MCV2,
-            numbers[TX_END],
-            numbered(REJECT_CAUSE, cause),
-            indicator_part(indicator),
-            Part::Absent,
-        ),
-        Message::TransmissionEndResponse { head } => plan_with(
-            head,
-            MCV2,
-            numbers[TX_END_RESPONSE],
-            Part::Absent,
-            Part::Absent,
-            Part::Absent,
-        ),
-        Message::Ack {
-            head,
-            source,
-            about,
-        } => plan_with(
-            head,
-            MCV2,
-            numbers[ACK],
-            numbered(SOURCE, source),
-            numbered(MESSAGE_TYPE, (about as u16) * 256),
-            Part::Absent,
-        ),
+    Part::Named(Name {
+        at: message[at],
+        len: message[at + 1],
+    })
+}
+
+// The fields of a message, in the order written.
+struct Fields {
+    first: Part,
+    second: Part,
+    third: Part,
+}
+
+// The fields of the message of a row, of the fifth kind or a later one.
+fn later_fields(message: &[u32]) -> Fields
+    requires { ⌜ (5 ≤ getD (now message) 0 0) × (length (now message) ≡ 12) × T (numbersFit (now message)) ⌝ }
+    ensures { λ r. ⌜ ((id : ℕ) → r ≡ fieldsFor id (messageFrom (now (message .entry)))) ⌝ }
+{
+    match message[KIND] {
+        5 => Fields {
+            first: numbered(codes::REJECT_CAUSE, message[CAUSE]),
+            second: optional(codes::INDICATOR, message, INDICATOR),
+            third: Part::Absent,
+        },
+        6 => Fields {
+            first: Part::Absent,
+            second: Part::Absent,
+            third: Part::Absent,
+        },
+        _ => Fields {
+            first: numbered(codes::SOURCE, message[SOURCE]),
+            second: numbered(codes::MESSAGE_TYPE, message[ABOUT] * 256),
+            third: Part::Absent,
+        },
+    }
+}
+
+// The fields of the message of a row, where the Result has this ID.
+fn fields_of(result_id: u32, message: &[u32]) -> Fields
+    requires { ⌜ («result_id» < 256) × (length (now message) ≡ 12) × T (numbersFit (now message)) ⌝ }
+    ensures { λ r. ⌜ r ≡ fieldsFor «result_id» (messageFrom (now (message .entry))) ⌝ }
+{
+    match message[KIND] {
+        1 => Fields {
+            first: named(message, USER),
+            second: named(message, NAMED),
+            third: optional(codes::INDICATOR, message, INDICATOR),
+        },
+        2 => Fields {
+            first: numbered(result_id, message[RESULT]),
+            second: optional(codes::REJECT_CAUSE, message, CAUSE),
+            third: optional(codes::INDICATOR, message, INDICATOR),
+        },
+        3 => Fields {
+            first: named(message, NAMED),
+            second: optional(codes::INDICATOR, message, INDICATOR),
+            third: Part::Absent,
+        },
+        4 => Fields {
+            first: named(message, NAMED),
+            second: Part::Absent,
+            third: Part::Absent,
+        },
+        _ => later_fields(message),
+    }
+}
+
+// The plan of the message of a row, under these numbers.
+pub fn plan_for(numbers: &[u32], message: &[u32]) -> Plan
+    requires { ⌜ T (fitting (now numbers)) × (length (now message) ≡ 12) × T (numbersFit (now message)) ⌝ }
+    ensures { λ r. ⌜ r ≡ planFor (sheetFrom (now (numbers .entry))) (messageFrom (now (message .entry))) ⌝ }
+{
+    let kind = message[KIND];
+    let number = numbers[BEFORE + (kind as usize)];
+    let fields = fields_of(numbers[RESULT_ID], message);
+    let first = fields.first;
+    let second = fields.second;
+    let third = fields.third;
+    Plan {
+        start: start_of(message[ACK] == 1, number),
+        letters: letters_of(kind),
+        ssrc: message[SSRC],
+        first,
+        second,
+        third,
     }
 }

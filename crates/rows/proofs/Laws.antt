@@ -5,5 +5,4 @@ pub mod Answers
 pub mod Held
 pub mod Events
 pub mod Attempts
-pub mod Messages
 pub mod Claims

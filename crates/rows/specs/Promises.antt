@@ -9,10 +9,6 @@ use lib.ListN.{length}
 use lib.Dec.{leb}
 use Rattle.octets.specs.Buffer.{putAt}
 use Rattle.octets.specs.Promises.{one-answer, one-value}
-use Rattle.packet.specs.declared.Message.{Message}
-use Rattle.packet.specs.declared.Reading.{Reading}
-use Rattle.packet.specs.declared.Reading.the-variants.{Read, Refused}
-use Rattle.packet.specs.Apart.{reading-apart}
 use Rattle.streams.specs.declared.Record.{Record}
 use Rattle.streams.specs.declared.Event.{Event}
 use Rattle.streams.specs.declared.Answer.{Answer}
@@ -21,8 +17,6 @@ use Rattle.reception.specs.declared.Attempt.{Attempt}
 use Rattle.reception.specs.declared.Worked.the-variants.{Out}
 use Rattle.reception.specs.Steps.{Said, gives, attemptSaid}
 use Rattle.reception.specs.Promises.{worked-apart}
-use Rattle.rows.specs.declared.message.Handed.{Handed}
-use Rattle.rows.specs.declared.message.Handed.the-variants.{Message as HandedMessage, Nothing as NoMessage}
 use Rattle.rows.specs.declared.records.Recording.{Recording}
 use Rattle.rows.specs.declared.records.Recording.the-variants.{Record as RecordingRecord, Nothing as NoRecord}
 use Rattle.rows.specs.declared.event.Eventing.{Eventing}
@@ -31,9 +25,9 @@ use Rattle.rows.specs.declared.answer.Answering.{Answering}
 use Rattle.rows.specs.declared.answer.Answering.the-variants.{Answer as AnsweringAnswer, Nothing as NoAnswer}
 use Rattle.rows.specs.declared.attempt.Trying.{Trying}
 use Rattle.rows.specs.declared.attempt.Trying.the-variants.{Attempt as TryingAttempt, Nothing as NoAttempt}
-use Rattle.rows.specs.Rows.{isSome, rowFor, recordRow, recordsIn, recordsBy, eventRow, answerRow, answerIn, tryRow}
+use Rattle.rows.specs.Rows.{isSome, recordRow, recordsIn, recordsBy, eventRow, answerRow, answerIn, tryRow}
 use Rattle.rows.specs.Lent.{code, put, roomy}
-use Rattle.rows.specs.Held.{messageHeld, asReading, handedSaid, recordingSaid, eventHeld, eventingSaid, answeringSaid, tryHeld, tryingSaid}
+use Rattle.rows.specs.Held.{recordingSaid, eventHeld, eventingSaid, answeringSaid, tryHeld, tryingSaid}
 
 -- ---- a row put into a slice
 
@@ -62,14 +56,6 @@ pub put-number-once : (out : List ℕ) (n x y : ℕ) (now other : List ℕ)
     → put-number≡ out n x now → put-number≡ out n y other → (x ≡ y) × (now ≡ other)
 put-number-once out n = rowed-once (gives (n ∷ [])) out
 
--- a message
-abbrev pub put-message≡ : List ℕ → Message → ℕ → List ℕ → Type 0
-put-message≡ out message r now = Rowed (gives (rowFor message)) out r now
-
-pub put-message-once : (out : List ℕ) (message : Message) (x y : ℕ) (now other : List ℕ)
-    → put-message≡ out message x now → put-message≡ out message y other → (x ≡ y) × (now ≡ other)
-put-message-once out message = rowed-once (gives (rowFor message)) out
-
 -- an event
 abbrev pub put-event≡ : List ℕ → Event → ℕ → List ℕ → Type 0
 put-event≡ out event r now = Rowed (gives (eventRow event)) out r now
@@ -78,12 +64,12 @@ pub put-event-once : (out : List ℕ) (event : Event) (x y : ℕ) (now other : L
     → put-event≡ out event x now → put-event≡ out event y other → (x ≡ y) × (now ≡ other)
 put-event-once out event = rowed-once (gives (eventRow event)) out
 
--- an answer's row by itself
+-- an answer's row by itself, which stands for it
 abbrev pub row-of≡ : Answer → List ℕ → Type 0
-row-of≡ answer r = r ≡ answerRow answer
+row-of≡ answer r = (r ≡ answerRow answer) × (answerIn r ≡ some answer)
 
 pub row-of-once : (answer : Answer) (x y : List ℕ) → row-of≡ answer x → row-of≡ answer y → x ≡ y
-row-of-once answer x y e f = one-value x y e f
+row-of-once answer x y e f = one-value x y (e .0) (f .0)
 
 -- an attempt
 abbrev pub put-attempt≡ : List ℕ → Attempt → ℕ → List ℕ → Type 0
@@ -115,24 +101,6 @@ abbrev back : {A B : Type 0} → (A → B) → B → Option A → B
 back value nothing none = nothing
 back value nothing (some x) = value x
 
--- a message
-abbrev handedBack : Reading → Handed
-handedBack (Read m) = HandedMessage m
-handedBack (Refused r) = NoMessage
-
-handed-back : (x : Handed) → handedBack (asReading x) ≡ x
-handed-back (HandedMessage m) = refl
-handed-back NoMessage = refl
-
-handed-apart : (x y : Handed) → handedSaid x ≡ handedSaid y → x ≡ y
-handed-apart x y e = sym (handed-back x) ∙ ap handedBack (reading-apart (asReading x) (asReading y) e) ∙ handed-back y
-
-abbrev pub message-in≡ : List ℕ → Handed → Type 0
-message-in≡ row r = handedSaid r ≡ messageHeld row
-
-pub message-in-once : (row : List ℕ) (x y : Handed) → message-in≡ row x → message-in≡ row y → x ≡ y
-message-in-once row x y e f = one-answer handedSaid handed-apart x y e f
-
 -- an event
 eventing-back : (x : Eventing) → back EventingEvent NoEvent (eventingSaid x) ≡ x
 eventing-back (EventingEvent e) = refl
@@ -160,6 +128,13 @@ answer-in≡ row r = answeringSaid r ≡ answerIn row
 
 pub answer-in-once : (row : List ℕ) (x y : Answering) → answer-in≡ row x → answer-in≡ row y → x ≡ y
 answer-in-once row x y e f = one-answer answeringSaid answering-apart x y e f
+
+-- whether there is one
+abbrev pub is-answer≡ : List ℕ → Bool → Type 0
+is-answer≡ row r = r ≡ isSome (answerIn row)
+
+pub is-answer-once : (row : List ℕ) (x y : Bool) → is-answer≡ row x → is-answer≡ row y → x ≡ y
+is-answer-once row x y e f = one-value x y e f
 
 -- an attempt, told by what working out tells of it
 attempt-apart : (x y : Attempt) → attemptSaid x ≡ attemptSaid y → x ≡ y

@@ -1,16 +1,23 @@
 // An answer as a row of numbers: its number, the kind of the message to send or 0, Result and cause, timers to stop, timers to start.
-use super::NONE;
 use super::NUMBER_END;
+use packet::row::NONE;
 use reception::Answer;
 ghost use mathlib.Core.Path.{_≡_};
 ghost use mathlib.Core.List.{[], _∷_};
 ghost use Rattle.rows.specs.Rows.{answerIn};
 ghost use Rattle.rows.specs.Held.{answeringSaid};
-ghost use Rattle.rows.specs.Promises.{row-of≡, answer-in≡};
+ghost use Rattle.rows.specs.Promises.{row-of≡, answer-in≡, is-answer≡};
 ghost use Rattle.rows.specs.Inner.{likelyAnswer, likelyGrant, likelyEnd, likelyFreed, likelyRelease};
 
 // How many numbers an answer's row has.
 pub const ANSWER: usize = 6;
+
+// Where in it the kind of the message to send stands, its Result and its cause.
+pub const SENDS: usize = 1;
+
+pub const RESULT: usize = 2;
+
+pub const CAUSE: usize = 3;
 
 // The timers, as they are summed.
 const T3: u32 = 1;
@@ -29,6 +36,7 @@ pub enum Answering {
 
 // ---- an answer as a row
 
+// The row of an answer, which stands for it.
 pub fn row_of(answer: Answer) -> [u32; ANSWER]
     ensures { λ r. ⌜ row-of≡ answer r ⌝ }
 {
@@ -142,4 +150,14 @@ pub fn answer_in(row: &[u32]) -> Answering
         return Answering::Nothing;
     }
     answer_of(row[0], row[1], row[2], row[3], row[4], row[5])
+}
+
+// Whether a row stands for an answer.
+pub fn is_answer(row: &[u32]) -> bool
+    ensures { λ r. ⌜ is-answer≡ (now (row .entry)) r ⌝ }
+{
+    match answer_in(row) {
+        Answering::Answer(_) => true,
+        Answering::Nothing => false,
+    }
 }

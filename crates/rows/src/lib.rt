@@ -1,17 +1,13 @@
-// Messages, events, answers, attempts and stream records as rows of numbers and octets that a host written in C lends, and back (document 01: "on numbers and
+// Events, answers, attempts and stream records as rows of numbers and octets that a host written in C lends, and back (document 01: "on numbers and
 // octets, with the same answers"). include/coyametzi.h says what each row holds. What is handed in stands for the value whose row it is, or for none.
 pub mod answer;
 pub mod attempt;
 pub mod event;
-pub mod message;
 mod record;
 pub mod records;
 
 ghost use mathlib.Core.Path.{_≡_};
 ghost use Rattle.rows.specs.Promises.{put≡, put-number≡};
-
-// MCV_NONE, where there is no number.
-pub const NONE: u32 = 4294967295;
 
 pub const NO_ROOM: u32 = 11;
 

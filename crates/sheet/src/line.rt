@@ -17,14 +17,13 @@ pub fn are_within(numbers: &[u32]) -> bool
     requires { ⌜ numberLines ≤ length (now numbers) ⌝ }
     ensures { λ r. ⌜ T r ↔ ((k : ℕ) → k < numberLines → T (within k (getD (now (numbers .entry)) k 0))) ⌝ }
 {
+    let mut good = true;
     let mut k = 0;
     while k < NUMBER_LINES {
-        if !is_within(rule_of(k), numbers[k] as u64) {
-            return false;
-        }
+        good = good & is_within(rule_of(k), numbers[k] as u64);
         k += 1;
     }
-    true
+    good
 }
 
 // Whether one of these lines, the first of a sheet, has this number in this family, of which none is before the eldest.

@@ -67,6 +67,10 @@ readOf t = readingOf (outcome t)
 unfoldable pub usersIn : List ℕ → List (List ℕ)
 usersIn t = usersFrom (outcome t)
 
+-- what stands where these were, once the text is read: "refused .. changes no lent octet"
+unfoldable pub usersOver : List ℕ → List (List ℕ) → List (List ℕ)
+usersOver t users = pick (eqb (readOf t .refusal .number) 0) (usersIn t) users
+
 -- ---- the lines of any text
 
 -- a line: what stands up to and with its LF, or what is left without one, even if that is nothing

@@ -43,11 +43,9 @@ enum Rest {
 
 // Whether the octets of key stand at a place.
 fn stands_at(text: &[u8], at: usize, key: &[u8]) -> bool
+    requires { ⌜ at ≤ length (now text) ⌝ }
     ensures { λ r. ⌜ r ≡ begins (now (key .entry)) (drop at (now (text .entry))) ⌝ }
 {
-    if text.len() < at {
-        return key.len() == 0;
-    }
     if text.len() - at < key.len() {
         return false;
     }
@@ -63,20 +61,13 @@ fn stands_at(text: &[u8], at: usize, key: &[u8]) -> bool
 
 // Whether a key stands at a place.
 fn has_key(text: &[u8], at: usize, key: Key) -> bool
-    requires { ⌜ (key .from ≤ key .end) × (key .end ≤ length keys) ⌝ }
+    requires { ⌜ (at ≤ length (now text)) × (key .from ≤ key .end) × (key .end ≤ length keys) ⌝ }
     ensures { λ b. ⌜ b ≡ begins (take (key .end - key .from) (drop (key .from) keys)) (drop at (now (text .entry))) ⌝ }
 {
     let from = key.from;
     let end = key.end;
     let octets = KEYS;
     stands_at(text, at, &octets[from..end])
-}
-
-// "decimal": 0 to 9.
-fn is_digit(c: u8) -> bool
-    ensures { λ r. ⌜ r ≡ digit c ⌝ }
-{
-    if c < b'0' { false } else { c <= b'9' }
 }
 
 // The number that the digits at a place make, as far as CAP, and where they end.
@@ -88,7 +79,8 @@ fn digits(text: &[u8], at: usize) -> Decimal
     let mut i = at;
     while i < text.len() {
         let c = text[i];
-        if !is_digit(c) {
+        let is_digit = (b'0' <= c) & (c <= b'9');
+        if !is_digit {
             return Decimal { number, end: i };
         }
         let next = number * 10 + ((c - b'0') as u64);

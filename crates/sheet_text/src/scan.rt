@@ -10,6 +10,7 @@ use sheet::number::is_good_number;
 use sheet::numbers::LINES;
 use sheet::numbers::NUMBER_LINES;
 use sheet::numbers::Numbers;
+use sheet::numbers::SEATS_LINE;
 ghost use mathlib.Core.Path.{_≡_};
 ghost use Prim.Native.Nat.{_<_, _≤_};
 ghost use mathlib.Core.List.{[]};
@@ -84,17 +85,13 @@ pub fn scan(text: &[u8], users: &mut Users) -> Reading
     ensures { λ r. ⌜ (r ≡ readOf (now (text .entry))) × (r .refusal .number ≡ 0 → now (users .exit) ≡ usersIn (now (text .entry))) ⌝ }
 {
     let mut numbers = [0u32; LINES];
-    let mut lines = NUMBER_LINES;
     let mut at = 0;
     let mut k = 0;
-    while k < lines {
+    while k < NUMBER_LINES + (numbers[SEATS_LINE] as usize) {
         let Line::Good { number, name, end } = judged(text, at, k, &numbers, users) else {
             return refused(k + 1);
         };
         numbers[k] = number as u32;
-        if k + 1 == NUMBER_LINES {
-            lines = NUMBER_LINES + (number as usize);
-        }
         if NUMBER_LINES <= k {
             let s = k - NUMBER_LINES;
             octets::put_octets(&mut users[s][..], 0, &text[name..end]);

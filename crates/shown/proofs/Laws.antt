@@ -1,4 +1,3 @@
-pub mod Hex
 pub mod Packets
 pub mod Line
 pub mod Values

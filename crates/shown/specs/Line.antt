@@ -1,45 +1,19 @@
 -- What `mcvlook` prints for a line, and for a sheet that is refused (document 01, "Bench program" and its example). Assumes nothing.
 use Prim.Native.Nat.{ℕ, _+_, _-_, _*_}
 use Prim.Native.String.{String}
-use mathlib.Core.Bool.{Bool, _&&_}
+use mathlib.Core.Bool.{Bool}
 use mathlib.Core.List.{List, [], _∷_, _++_, map}
 use mathlib.Core.Option.{Option, none, some}
 use lib.ListN.{length, getD, take, drop}
 use lib.Dec.{leb}
 use Rattle.octets.specs.Choice.{pick, same}
-use Rattle.octets.specs.Buffer.{padded}
-use Rattle.octets.specs.Hex.{isHex, hexOctets}
 use Rattle.octets.specs.Text.{ascii, decimal}
+use Rattle.hex.specs.Line.{packetIn}
 use Rattle.sheet.specs.declared.Sheet.{Sheet}
 use Rattle.sheet_text.specs.Line.{lf}
 use Rattle.packet.specs.declared.Numbers.{Numbers}
 use Rattle.packet.specs.Judge.{Held, absent, given, named}
 use Rattle.packet.specs.Reading.{Outcome, reads, refused, readBy, readOf}
-use Rattle.shown.specs.declared.hex.Packet.{Packet}
-
--- ---- the packet on a line
-
--- "above 512 digits"
-abbrev pub mostDigits : ℕ
-mostDigits = 512
-
--- a line that is not "not hex, odd, empty, or above 512 digits"
-unfoldable pub lineRight : List ℕ → Bool
-lineRight line = leb 1 (length line) && (leb (length line) mostDigits && isHex line)
-
-unfoldable pub packetIn : List ℕ → Option (List ℕ)
-packetIn line = pick (lineRight line) (some (hexOctets line)) none
-
--- the struct that holds it; none has no octets
-abbrev pub mostOctets : ℕ
-mostOctets = 256
-
-abbrev pub packetOf : List ℕ → Packet
-packetOf p = record { octets = padded mostOctets 0 p; len = length p }
-
-unfoldable pub packetAs : Option (List ℕ) → Packet
-packetAs none = packetOf []
-packetAs (some p) = packetOf p
 
 -- ---- the ten values of a message
 

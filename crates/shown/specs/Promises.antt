@@ -3,8 +3,8 @@
 use mathlib.Core.Path.{_≡_}
 use Prim.Native.Nat.{ℕ, _+_, min}
 use mathlib.Core.List.{List, []}
-use mathlib.Core.Option.{some}
 use lib.ListN.{length}
+use lib.Dec.{leb}
 use Rattle.octets.specs.Buffer.{putAt}
 use Rattle.octets.specs.Promises.{one-value}
 use Rattle.sheet.specs.declared.Refusal.{Refusal}
@@ -12,44 +12,42 @@ use Rattle.packet.specs.declared.Numbers.{Numbers}
 use Rattle.packet.specs.declared.Message.{Message}
 use Rattle.packet.specs.Message.{messageSaid}
 use Rattle.packet.specs.Reading.{refused}
-use Rattle.writing.specs.declared.Writing.{Writing}
-use Rattle.writing.specs.Writing.{roomFor, Answered}
-use Rattle.writing.specs.Promises.{answered-once}
-use Rattle.shown.specs.declared.hex.Packet.{Packet}
-use Rattle.shown.specs.Line.{packetIn, packetAs, textOf, lineBy, sheetLine, lineRoom, fitting}
+use Rattle.shown.specs.declared.Printing.{Printing}
+use Rattle.shown.specs.Printing.{Prints, prints-once}
+use Rattle.shown.specs.Line.{textOf, lineBy, sheetLine, lineRoom, fitting}
 
 -- ---- text put into the front of a buffer
 
--- "output shorter": the text whole, or 11 and nothing
-abbrev pub Printed : List ℕ → List ℕ → Writing → List ℕ → Type 0
-Printed text out r now = Answered (roomFor (length out) (some text)) out r now
+-- the text whole, or 11 and nothing
+abbrev pub Whole : List ℕ → List ℕ → Printing → List ℕ → Type 0
+Whole text out r now = Prints (leb (length text) (length out)) text out r now
 
-printed-once : (text out : List ℕ) (x y : Writing) (now other : List ℕ) → Printed text out x now → Printed text out y other → (x ≡ y) × (now ≡ other)
-printed-once text out x y now other e f = answered-once (roomFor (length out) (some text)) out x y now other e f
+whole-once : (text out : List ℕ) (x y : Printing) (now other : List ℕ) → Whole text out x now → Whole text out y other → (x ≡ y) × (now ≡ other)
+whole-once text out = prints-once (leb (length text) (length out)) text out
 
 -- the ten values of a message
-abbrev pub message≡ : Message → List ℕ → List ℕ → Writing → List ℕ → Type 0
-message≡ m p out r now = Printed (textOf p (messageSaid m)) out r now
+abbrev pub message≡ : Message → List ℕ → List ℕ → Printing → List ℕ → Type 0
+message≡ m p out r now = Whole (textOf p (messageSaid m)) out r now
 
-pub message-once : (m : Message) (p out : List ℕ) (x y : Writing) (now other : List ℕ)
+pub message-once : (m : Message) (p out : List ℕ) (x y : Printing) (now other : List ℕ)
     → message≡ m p out x now → message≡ m p out y other → (x ≡ y) × (now ≡ other)
-message-once m p out x y now other e f = printed-once (textOf p (messageSaid m)) out x y now other e f
+message-once m p out x y now other e f = whole-once (textOf p (messageSaid m)) out x y now other e f
 
 -- a refusal
-abbrev pub refusal≡ : Refusal → List ℕ → Writing → List ℕ → Type 0
-refusal≡ refusal out r now = Printed (textOf [] (refused (refusal .number) (refusal .at))) out r now
+abbrev pub refusal≡ : Refusal → List ℕ → Printing → List ℕ → Type 0
+refusal≡ refusal out r now = Whole (textOf [] (refused (refusal .number) (refusal .at))) out r now
 
-pub refusal-once : (refusal : Refusal) (out : List ℕ) (x y : Writing) (now other : List ℕ)
+pub refusal-once : (refusal : Refusal) (out : List ℕ) (x y : Printing) (now other : List ℕ)
     → refusal≡ refusal out x now → refusal≡ refusal out y other → (x ≡ y) × (now ≡ other)
-refusal-once refusal out x y now other e f = printed-once (textOf [] (refused (refusal .number) (refusal .at))) out x y now other e f
+refusal-once refusal out x y now other e f = whole-once (textOf [] (refused (refusal .number) (refusal .at))) out x y now other e f
 
 -- what is printed for a line
-abbrev pub line≡ : Numbers → List ℕ → List ℕ → Writing → List ℕ → Type 0
-line≡ n line out r now = Printed (lineBy n line) out r now
+abbrev pub line≡ : Numbers → List ℕ → List ℕ → Printing → List ℕ → Type 0
+line≡ n line out r now = Whole (lineBy n line) out r now
 
-pub line-once : (n : Numbers) (line out : List ℕ) (x y : Writing) (now other : List ℕ)
+pub line-once : (n : Numbers) (line out : List ℕ) (x y : Printing) (now other : List ℕ)
     → line≡ n line out x now → line≡ n line out y other → (x ≡ y) × (now ≡ other)
-line-once n line out x y now other e f = printed-once (lineBy n line) out x y now other e f
+line-once n line out x y now other e f = whole-once (lineBy n line) out x y now other e f
 
 -- ---- text put at a place of a buffer
 
@@ -75,15 +73,6 @@ put-sheet≡ line out at r now = Put (fitting (length (sheetLine line)) (length 
 pub put-sheet-once : (line : ℕ) (out : List ℕ) (at : ℕ) (x y : ℕ) (now other : List ℕ)
     → put-sheet≡ line out at x now → put-sheet≡ line out at y other → (x ≡ y) × (now ≡ other)
 put-sheet-once line out at x y now other e f = one-put (fitting (length (sheetLine line)) (length out) at (sheetLine line)) out at x y now other e f
-
--- ---- hex
-
--- the packet on a line, or none
-abbrev pub packet-in≡ : List ℕ → Packet → Type 0
-packet-in≡ line r = r ≡ packetAs (packetIn line)
-
-pub packet-in-once : (line : List ℕ) (x y : Packet) → packet-in≡ line x → packet-in≡ line y → x ≡ y
-packet-in-once line x y p q = one-value x y p q
 
 -- ---- numbers
 

@@ -1,7 +1,6 @@
 // What `mcvlook` prints for a line (document 01, "Bench program"): a packet in hex comes in, and out goes a line of text, its ten values or its
 // refusal; and the line for a sheet that is refused.
 mod decimal;
-pub mod hex;
 pub mod line;
 pub mod print;
 mod text;
@@ -14,6 +13,12 @@ ghost use Rattle.shown.specs.Promises.{least≡};
 pub const TIMES: usize = 10;
 
 pub const NO_ROOM: Refusal = Refusal { number: 11, at: 0 };
+
+// How many octets of text were printed, or 11.
+pub enum Printing {
+    Printed(usize),
+    Refused(Refusal),
+}
 
 pub const LF: u8 = 10;
 

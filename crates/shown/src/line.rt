@@ -1,8 +1,8 @@
 // What is printed for a line of the input, and for a refused sheet (document 01, "Bench program"), at a place of a buffer.
 use super::TIMES;
 use super::decimal;
-use super::hex::packet_in;
 use super::text;
+use hex::packet_in;
 use packet::Numbers;
 use packet::read_by;
 ghost use mathlib.Core.Path.{_≡_};

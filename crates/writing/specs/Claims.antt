@@ -12,7 +12,7 @@ use Rattle.sheet.specs.declared.Sheet.{Sheet}
 use Rattle.sheet.specs.Value.{validAlone}
 use Rattle.packet.specs.Kind.{numbersOf}
 use Rattle.packet.specs.Reading.{Outcome, readOf}
-use Rattle.plan.specs.Meaning.{Meaning, meaning}
+use Rattle.packet.specs.Meaning.{Meaning, meaning}
 use Rattle.writing.specs.Writing.{made, refused, writeOf}
 use Rattle.writing.specs.Canonical.{canonical}
 
@@ -44,7 +44,7 @@ WritableExactly =
 abbrev pub FiveExactly : Type 0
 FiveExactly =
     (s : Sheet) → T (validAlone s) → (message : Outcome) (names : List ℕ) (room : ℕ) (m : Meaning) → meaning names message ≡ some m
-    → (writeOf s message names room ≡ refused 5 0) ↔ ((p : List ℕ) → ReadsTo s p m → ⊥)
+    → (writeOf s message names room ≡ refused 5) ↔ ((p : List ℕ) → ReadsTo s p m → ⊥)
 
 -- ---- the canonical packet
 

@@ -12,6 +12,7 @@ use Rattle.streams.specs.Record.{idle, ending}
 use Rattle.reception.specs as reception
 use Rattle.incoming.specs as incoming
 use Rattle.outgoing.specs as outgoing
+use Rattle.hex.specs as hex
 use Rattle.shown.specs as shown
 use Rattle.look.specs as look
 use Rattle.cases.specs.Bench.{sheetWith, usersS, bench, Bench}
@@ -42,7 +43,7 @@ unfolding bench sheetWith usersS lib.Count.ones
     packet.Judge.formFor packet.Judge.atFault packet.Judge.faultAmong packet.Judge.filledBehind packet.Judge.filledIn packet.Judge.isAbsent
     packet.Judge.lacking packet.Judge.missingAt packet.Judge.firstOf packet.Judge.faultOf packet.Judge.heldBy packet.Reading.slotsIn
     packet.Reading.messageOf packet.Reading.readAs packet.Reading.readBy packet.Reading.readOf
-    plan.Meaning.valueIn plan.Meaning.meaning plan.Packet.holds plan.Packet.isNothing plan.Packet.takes plan.Packet.takesAll
+    packet.Meaning.valueIn packet.Meaning.meaning plan.Packet.holds plan.Packet.isNothing plan.Packet.takes plan.Packet.takesAll
     plan.Packet.isOne plan.Packet.writable plan.Packet.octetsFor plan.Packet.contentsFor plan.Packet.firstOctet plan.Packet.header
     plan.Packet.withHeader plan.Packet.packetAs plan.Packet.kindWith plan.Packet.packetOf writing.Writing.roomFor
     plan.Packet.packetFor writing.Writing.writeOf
@@ -51,7 +52,7 @@ unfolding bench sheetWith usersS lib.Count.ones
     streams.Table.afterClearing streams.Table.onEnd streams.Table.onT11 streams.Table.ruleFor reception.Steps.seenOf reception.Steps.readOf
     reception.Steps.attemptOf reception.Steps.workOf reception.Steps.replyOf reception.Steps.stored reception.Steps.storeOf reception.Schedule.noted reception.Schedule.after
     reception.Schedule.ifTook reception.Schedule.takenAt reception.Schedule.run reception.Schedule.taken
-    look.Lines.before look.Lines.linesOf shown.Line.lineRight shown.Line.packetIn shown.Line.namesOf shown.Line.under
+    look.Lines.before look.Lines.linesOf hex.Line.lineRight hex.Line.packetIn shown.Line.namesOf shown.Line.under
     shown.Line.tenOf shown.Line.valueText shown.Line.labelled shown.Line.numberLine shown.Line.textOf shown.Line.lineAs shown.Line.lineOf shown.Line.sheetLine
     look.Look.lookOf
     incoming.Event.onStream incoming.Event.requestBy incoming.Event.heard incoming.Event.eventFrom incoming.Event.eventOf

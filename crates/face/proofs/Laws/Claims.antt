@@ -18,11 +18,12 @@ use Rattle.sheet_text.specs.Reading.{Outcome as SheetOutcome, reads as sheetRea
 use Rattle.sheet_text.specs.Reading.{readingOf, usersFrom, readOf, usersIn}
 use Rattle.sheet_text.proofs.Laws.Readings.{outcome-reads}
 use Rattle.packet.specs.Reading.{Outcome, refused}
+use Rattle.packet.specs.Row.{messageRow, numbersSay, messageIn}
 use Rattle.streams.specs.declared.Record.{Record}
 use Rattle.streams.specs.Record.{own}
 use Rattle.reception.specs.Steps.{Said, gives, refuses, Try, replyOf, stored, storeOf}
 use Rattle.reception.proofs.Laws.Steps.{check-gives, gives-same, reply-gives, reply-below}
-use Rattle.rows.specs.Rows.{sheetRow, messageRow, numbersSay, messageIn, recordsRow, recordsIn, replyRow, tryRow, tryIn}
+use Rattle.rows.specs.Rows.{sheetRow, recordsRow, recordsIn, replyRow, tryRow, tryIn}
 use Rattle.rows.proofs.Laws.Records.{records-eight, row-set}
 use Rattle.rows.proofs.Laws.Claims.{attempts-stand}
 use Rattle.face.specs.Calls.{ofGiven, standing, sheetSays, Stored, leftSays, storeSays}

@@ -20,13 +20,13 @@ use Rattle.packet.specs.Kind.{Kind, kindOf, numbersOf}
 use Rattle.packet.specs.Judge.{faultOf}
 use Rattle.packet.specs.Reading.{Outcome, reads, refused, slotsIn, messageOf, readAs, readBy, readOf}
 use Rattle.packet.specs.Message.{messageSaid}
-use Rattle.plan.specs.Meaning.{Meaning}
+use Rattle.packet.specs.Meaning.{Meaning}
+use Rattle.packet.specs.Row.{rowFor}
 use Rattle.streams.specs.declared.What.{What}
 use Rattle.streams.specs.declared.What.the-variants.{Request, End}
 use Rattle.reception.specs.Steps.{Said, gives}
 use Rattle.sheet.specs.Find.{userOf}
 use Rattle.incoming.specs.Event.{sendersOf, seated, nameIn, onStream, requestBy, heard, eventFrom, eventOf}
-use Rattle.rows.specs.Rows.{rowFor}
 use Rattle.face.specs.Calls.{outcomeSays}
 use Rattle.face.proofs.Laws.Told.{Plain, plain-check}
 

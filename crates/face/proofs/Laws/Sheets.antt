@@ -1,5 +1,5 @@
 -- A sheet that is read into slices that a host lends: how many octets and lines it has at most, and what the call then leaves. Assumes nothing.
-use mathlib.Core.Path.{_≡_, refl, sym, ap, subst}
+use mathlib.Core.Path.{_≡_, refl, sym, ap, subst, _∙_}
 use mathlib.Core.Logic.{_⊎_, ⊎-elim}
 use mathlib.Core.Bool.{Bool, true, false, _&&_}
 use mathlib.Core.List.{List, [], _∷_, _++_}
@@ -22,8 +22,9 @@ use Rattle.sheet.proofs.Laws.Fresh.{seats-bound}
 use Rattle.sheet.proofs.Laws.Laid.{valid-good, valid-length}
 use Rattle.sheet_text.specs.declared.Reading.{Reading}
 use Rattle.sheet_text.specs.Line.{tailOf, widest, longest, textOf}
-use Rattle.sheet_text.specs.Reading.{Outcome, reads, refused, goodLine, behind, readBy, outcome, readingOf, readOf, usersIn}
+use Rattle.sheet_text.specs.Reading.{Outcome, reads, refused, goodLine, behind, readBy, outcome, readingOf, readOf, usersOver}
 use Rattle.sheet_text.proofs.Laws.Readings.{entryAt, goodLine-good, outcome-reads}
+use Rattle.sheet_text.proofs.Laws.Scanned.{users-read}
 use Rattle.sheet_text.proofs.Laws.Decides.{longest-decides}
 use Rattle.reception.specs.Steps.{gives}
 use Rattle.rows.specs.Lent.{code, put, roomy}
@@ -136,14 +137,14 @@ module _ (text sheet : List ℕ) (users : List (List ℕ)) (used : List ℕ) (x 
         rw (← e, eq-eqb (x .refusal .number) 0 z, short) (refl, refl, refl, refl)
 
     -- neither is
-    pub sheet-read : (now count : List ℕ) (rows : List (List ℕ)) → 19 ≤ length sheet → 1 ≤ length used → now ≡ over (sheetRow x) sheet
-        → rows ≡ usersIn text → count ≡ over (x .used ∷ []) used → mcv-sheet≡ text sheet users used 0 now rows count
+    pub sheet-read : (now count : List ℕ) (named rows : List (List ℕ)) → 19 ≤ length sheet → 1 ≤ length used → now ≡ over (sheetRow x) sheet
+        → rows ≡ usersOver text named → count ≡ over (x .used ∷ []) used → mcv-sheet≡ text sheet users used 0 now rows count
     unfolding sheetSays roomy code put usersAfter
-    sheet-read now count rows h l f g k =
+    sheet-read now count named rows h l f g k =
         rw (
           ← e,
           eq-eqb (x .refusal .number) 0 z,
           le-leb (length (sheetRow x)) (length sheet) (omega (arith, read-small text x e .row)),
           le-leb 1 (length used) l,
         )
-        (refl, f, g, k)
+        (refl, f, g ∙ users-read text named (sym (ap (λ (r : Reading). r .refusal .number) e) ∙ z), k)

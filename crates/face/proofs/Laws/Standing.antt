@@ -17,13 +17,13 @@ use Rattle.packet.specs.declared.kind.Form.the-variants.{Number, Cause, Result,
 use Rattle.packet.specs.Kind.{Row, Kind, always, unlessGranted, row, user, indicator, kindRow, kinds, mayLack, mayHave, grants, numbersOf}
 use Rattle.packet.specs.Judge.{Held, absent, given, named}
 use Rattle.packet.specs.Reading.{Outcome, reads, refused}
-use Rattle.plan.specs.Meaning.{Value, nothing, numeral, spelt, nowhere, valueIn, meaning}
+use Rattle.packet.specs.Meaning.{Value, nothing, numeral, spelt, nowhere, valueIn, meaning}
+use Rattle.packet.specs.Row.{noNumber, flag, columns, withHeld, withAll, messageRow, heldIn, numbersSay}
 use Rattle.plan.specs.Packet.{holds, isNothing, takes, takesAll, isOne, isNumber, within, writable, packetFor}
+use Rattle.plan.specs.Inner.{numberFrom}
 use Rattle.plan.proofs.Laws.Packets.{packetOf-written}
+use Rattle.plan.proofs.Laws.Rows.{numbered}
 use Rattle.writing.proofs.Laws.Kinds.{kindWith-all}
-use Rattle.rows.specs.Rows.{noNumber, flag, columns, withHeld, withAll, messageRow, heldIn, numbersSay}
-use Rattle.rows.specs.Inner.{numberFrom}
-use Rattle.rows.proofs.Laws.Messages.{numbered}
 
 -- ---- values that a kind takes
 

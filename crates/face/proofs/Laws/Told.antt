@@ -8,17 +8,13 @@ use Rattle.octets.specs.Choice.{pick}
 use Rattle.reception.specs.Steps.{Said, gives, refuses, check}
 use Rattle.rows.specs.Lent.{code, put, roomy}
 use Rattle.rows.specs.Promises.{Rowed}
-use Rattle.face.specs.Promises.{Wrote, Keeps}
+use Rattle.face.specs.Promises.{Keeps}
 
 -- ---- a refusal is told by its code, and leaves what was lent
 
 pub rowed-refuses : (number line : ℕ) (out : List ℕ) (r : ℕ) → r ≡ number + 256 * line → Rowed (refuses number line) out r out
 unfolding roomy code put
 rowed-refuses number line out r e = (e, refl)
-
-pub wrote-refuses : (number line : ℕ) (out written : List ℕ) (r : ℕ) → r ≡ number + 256 * line → Wrote (refuses number line) out written r out written
-unfolding roomy code put
-wrote-refuses number line out written r e = (e, refl, refl)
 
 pub keeps-refuses : (number line : ℕ) (records answer : List ℕ) (r : ℕ) → r ≡ number + 256 * line → Keeps (refuses number line) records answer r records answer
 unfolding roomy code put

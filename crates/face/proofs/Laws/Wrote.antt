@@ -1,33 +1,27 @@
 -- A packet put into the part of a buffer that may be written into, which is all of it or, where no count can be put, nothing; and the packet's length
--- put into `written`. What is made of a message is such a packet, of at most 256 octets. Assumes nothing.
-use mathlib.Core.Path.{_≡_, refl, _∙_}
-use Prim.Native.Nat.{ℕ, _+_, _*_, _≤_, _<_}
+-- put into `written` (`wrote`). Assumes nothing.
+use mathlib.Core.Path.{_≡_, refl, sym, ap, _∙_}
+use Prim.Native.Nat.{ℕ, _+_, _*_, _≤_}
 use mathlib.Core.Bool.{Bool, true, false}
 use mathlib.Core.List.{List, [], _∷_, _++_, append-nil}
 use mathlib.Core.Option.{Option, none, some}
 use native.Mathlib.Omega.{arith}
 use lib.ListN.{length, take, drop, drop-of-length-le}
 use lib.Seq.{take-all}
-use lib.Dec.{T, leb, leb·suc-zero}
+use lib.Dec.{leb, leb·suc-zero}
 use borrow.Author.Tests.{le-leb}
 use Rattle.octets.specs.Choice.{pick}
 use Rattle.octets.specs.Buffer.{over}
-use Rattle.octets.proofs.Choice.{pick-true, pick-cases}
-use Rattle.sheet.specs.declared.Sheet.{Sheet}
-use Rattle.sheet.specs.Value.{validAlone}
-use Rattle.fields.proofs.Laws.Sized.{sized}
-use Rattle.packet.specs.Kind.{numbersOf}
-use Rattle.plan.specs.Meaning.{Meaning}
-use Rattle.plan.specs.Packet.{packetOf}
-use Rattle.plan.proofs.Laws.Packets.{packetOf-written}
-use Rattle.writing.specs.Writing.{Made, made, refused, roomFor}
-use Rattle.writing.proofs.Laws.Back.{packet-front}
+use Rattle.octets.proofs.Choice.{pick-true}
+use Rattle.writing.specs.declared.Writing.{Writing}
+use Rattle.writing.specs.declared.Writing.the-variants.{Written, Refused as NotWritten}
+use Rattle.writing.specs.Writing.{Made, made, refused, roomFor, told, after, Answered}
 use Rattle.reception.specs.Steps.{Said, gives, refuses, check}
 use Rattle.rows.specs.Lent.{code, put, roomy}
 use Rattle.face.specs.Calls.{madeSays}
 use Rattle.rows.specs.Promises.{Rowed}
 use Rattle.face.specs.Promises.{Wrote}
-use Rattle.face.proofs.Laws.Told.{wrote-refuses, misfit-is}
+use Rattle.face.specs.Inner.{writingSays}
 
 -- what is given where it goes into so much room, else 11
 abbrev pub inRoom : ℕ → Said (List ℕ) → Said (List ℕ)
@@ -115,6 +109,32 @@ module _ (said : Said (List ℕ)) (out written : List ℕ) (room : ℕ) (e : roo
   pub part-refused : Refused said out written room
   part-refused = rw e (in-part said out written .1)
 
+-- ---- what is made, by the room
+
+module _ (makes : ℕ → Made) (wants : Said (List ℕ)) (in-room : (room : ℕ) → madeSays (makes room) ≡ inRoom room wants)
+    (out written : List ℕ) (room : ℕ) (e : room ≡ roomIn out written) where
+  -- what the part of the buffer is asked for
+  abbrev asked : Made
+  asked = makes (length (take room out))
+
+  -- what was answered there and then told is the call's
+  pub wrote : (writing : Writing) (part count : List ℕ) (r : ℕ) → Answered asked (take room out) writing part
+      → Rowed (writingSays writing) written r count → Wrote (madeSays (makes (length out))) out written r (part ++ drop room out) count
+  unfolding told after roomy code put
+  wrote writing part count r answered h = rw (in-room (length out)) (by asked writing refl answered h)
+    where
+      by : (w : Made) (x : Writing) → asked ≡ w → Answered w (take room out) x part → Rowed (writingSays x) written r count
+          → Wrote (inRoom (length out) wants) out written r (part ++ drop room out) count
+      by (made p) (Written n) f t h =
+          let l : n ≡ length p = cc (t .0) in
+          part-gave wants out written room e p part count r (sym (in-room (length (take room out))) ∙ ap madeSays f) (t .1) (rw l at h)
+      by (made p) (NotWritten number) f t h = let z : _≡_ {A = ℕ} 0 1 = cc (t .0) in absurd (omega arith)
+      by (refused number) (Written n) f t h = let z : _≡_ {A = ℕ} 0 1 = cc (t .0) in absurd (omega arith)
+      by (refused number) (NotWritten n) f t h =
+          let l : n ≡ number = cc (t .0) in
+          rw (h .1)
+          (part-refused wants out written room e number 0 part r (sym (in-room (length (take room out))) ∙ ap madeSays f) (t .1) (rw l at (h .0)))
+
 -- ---- a packet that is made, by the room
 
 -- the packet, whatever the room, or 5 where there is none
@@ -128,28 +148,6 @@ unfolding roomFor roomy
 room-made room none = refl
 room-made room (some p) = by (leb (length p) room)
   where
-    by : (b : Bool) → madeSays (pick b (made p) (refused 11 0)) ≡ check b 11 (gives p)
+    by : (b : Bool) → madeSays (pick b (made p) (refused 11)) ≡ check b 11 (gives p)
     by true = refl
     by false = refl
-
--- a packet has at most 256 octets
-pub packet-short : (s : Sheet) → T (validAlone s) → (m : Meaning) (p : List ℕ) → packetOf (numbersOf s) m ≡ some p → length p ≤ 256
-packet-short s v m p e = sized p (packet-front s v m p (packetOf-written (numbersOf s) m p e) .size) .most
-
--- and so has what is made; a refusal goes into the code
-abbrev pub ShortMade : Made → Type 0
-ShortMade (made p) = length p ≤ 256
-ShortMade (refused number at) = (number < 256) × (at < 256)
-
-pub short-made : (room : ℕ) (o : Option (List ℕ)) → ((p : List ℕ) → o ≡ some p → length p ≤ 256) → ShortMade (roomFor room o)
-unfolding roomFor
-short-made room none h = (omega arith, omega arith)
-short-made room (some p) h =
-    pick-cases ShortMade (leb (length p) room) (made p) (refused 11 0) (λ _. h p refl) (λ _. (omega arith, omega arith))
-
--- ---- what no value stands for
-
--- its refusal, where 12 comes before it
-pub wrote-misfit : (b : Bool) (number : ℕ) (out written : List ℕ) (r : ℕ) → r ≡ pick b number 12
-    → Wrote (check b 12 (refuses number 0)) out written r out written
-wrote-misfit b number out written r e = rw (misfit-is b number) (wrote-refuses (pick b number 12) 0 out written r (omega (arith, e)))

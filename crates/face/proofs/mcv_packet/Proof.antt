@@ -1,40 +1,32 @@
--- `face::mcv_packet` meets its contract: an answer is sent, and what is none, or a stream of no sheet, is refused behind the sheet. Assumes nothing.
-use mathlib.Core.Path.{sym, ap, _∙_}
+-- `face::mcv_packet` meets its contract: what the part of the buffer was asked for is what the call gives (`wrote`). Assumes nothing.
+use mathlib.Core.Path.{sym}
+use Prim.Native.Nat.{ℕ}
+use lib.Seq.{length-take-le}
+use denote.Ref.{now}
 use borrow.Author.Needs.{needs}
-use Rattle.sheet.specs.Value.{sheetIn, validWith}
-use Rattle.rows.specs.Held.{answeringSaid}
-use Rattle.face.proofs.Laws.Wrote.{wrote-misfit}
-use Rattle.face.proofs.Laws.Sends.{packet-misfit, packet-far, packet-stands}
+use Rattle.sheet.specs.Value.{sheetIn}
+use Rattle.outgoing.specs.Sending.{sendingIn, octetsOut}
+use Rattle.rows.specs.Rows.{answerIn}
+use Rattle.face.specs.Calls.{packetSays}
+use Rattle.face.proofs.Laws.Wrote.{wrote}
+use Rattle.face.proofs.Laws.Writes.{sent, sending-in}
 use Rattle.face.proofs.mcv_packet.Statement.{statement}
 use Rattle.face.proofs.mcv_packet.Tie as tie
 
-misfit-with-requires : tie.Need-misfit-with-requires
-misfit-with-requires c κs = search needs
+room-of-requires : tie.Need-room-of-requires
+room-of-requires c κs = search needs
 
-returns : tie.Need-returns
-returns c =
-    let then1 = c .before in
-    let a = then1 .before .before .before .before .before .args in
-    rw (packet-far (a .sheet .now) (a .users .now) (a .stream) (a .answer .now) _ (then1 .if1 .taken))
-    (wrote-misfit (validWith (sheetIn (a .sheet .now)) (a .users .now)) 9 _ _ _ (c .misfit-with .ensures))
+slice-relend-prefix-packet-lent : tie.Need-slice-relend-prefix-packet-lent
+slice-relend-prefix-packet-lent c = search needs
 
-answer-in-requires : tie.Need-answer-in-requires
-answer-in-requires c κs = search needs
+slice-aggregate-packet-lent : tie.Need-slice-aggregate-packet-lent
+slice-aggregate-packet-lent c = sym (length-take-le _ _ (c .before .before .room-of .ensures .1))
 
-enum-known-given : tie.Need-enum-known-given
-enum-known-given c = search needs
+packet-lent-requires : tie.Need-packet-lent-requires
+packet-lent-requires c κs = search needs
 
-cast-send : tie.Need-cast-send
-cast-send c = search needs
-
-send-requires : tie.Need-send-requires
-send-requires c κs = search needs
-
-enum-told : tie.Need-enum-told
-enum-told c = search needs
-
-misfit-with-requires-2 : tie.Need-misfit-with-requires-2
-misfit-with-requires-2 c κs = search needs
+put-written-requires : tie.Need-put-written-requires
+put-written-requires c κs = search needs
 
 same-length : tie.Need-same-length
 same-length c = search needs
@@ -42,38 +34,25 @@ same-length c = search needs
 same-length-2 : tie.Need-same-length-2
 same-length-2 c = search needs
 
-returns-2 : tie.Need-returns-2
-returns-2 c =
-    let sent = c .before .before .before .before in
-    let given = sent .before .before .before .before in
-    let asked = given .before .before in
-    let a = asked .before .before .before .before .before .before .args in
-    rw (packet-stands (a .sheet .now) (a .users .now) (a .stream) (a .answer .now) _ _
-    (sym (asked .answer-in .ensures) ∙ ap answeringSaid (given .given .given .1)))
-    (sent .send .ensures)
-
-returns-3 : tie.Need-returns-3
-returns-3 c =
-    let told = c .before in
-    let asked = told .before .before in
-    let a = asked .before .before .before .before .before .before .args in
-    rw (packet-misfit (a .sheet .now) (a .users .now) (a .stream) (a .answer .now) _
-    (sym (asked .answer-in .ensures) ∙ ap answeringSaid (told .enum-told .given .1)))
-    (wrote-misfit (validWith (sheetIn (a .sheet .now)) (a .users .now)) 9 _ _ _ (c .misfit-with2 .ensures))
+returns : tie.Need-returns
+unfolding packetSays
+returns c =
+    let told = c .before .before in
+    let lent = told .before .before .before in
+    let room = lent .before .before .before in
+    let a = room .before .before .before .before .before .args in
+    wrote (λ (room : ℕ). octetsOut (sendingIn (sheetIn (now (a .sheet))) (now (a .users)) (a .stream) (answerIn (now (a .answer))) room)) (sent (sheetIn (now (a .sheet))) (now (a .users)) (a .stream) (answerIn (now (a .answer)))) (sending-in (sheetIn (now (a .sheet))) (now (a .users)) (a .stream) (answerIn (now (a .answer))))
+    (now (a .out)) (now (a .written)) (room .room-of .result) (room .room-of .ensures .0) (lent .packet-lent .result) _ _ _ (lent .packet-lent .ensures) (told .put-written .ensures)
 
 pub mcv-packet-spec : {M : Type 1} → statement M
 mcv-packet-spec =
     tie.close
     (tie.spec
-    misfit-with-requires
-    returns
-    answer-in-requires
-    enum-known-given
-    cast-send
-    send-requires
-    enum-told
-    misfit-with-requires-2
+    room-of-requires
+    slice-relend-prefix-packet-lent
+    slice-aggregate-packet-lent
+    packet-lent-requires
+    put-written-requires
     same-length
     same-length-2
-    returns-2
-    returns-3)
+    returns)

@@ -17,8 +17,14 @@ read-lent-requires c κs = search needs
 enum-known-read : tie.Need-enum-known-read
 enum-known-read c = search needs
 
-put-message-requires : tie.Need-put-message-requires
-put-message-requires c κs = search needs
+row-of-requires : tie.Need-row-of-requires
+row-of-requires c κs = search needs
+
+slice-aggregate-put : tie.Need-slice-aggregate-put
+slice-aggregate-put c = search needs
+
+put-requires : tie.Need-put-requires
+put-requires c κs = search needs
 
 enum-known-refusal : tie.Need-enum-known-refusal
 enum-known-refusal c = search needs
@@ -37,12 +43,13 @@ returns : tie.Need-returns
 unfolding readSays
 returns c =
     let put = c .before .before in
-    let known = put .before .before .before in
+    let made = put .before .before .before in
+    let known = made .before .before in
     let found = known .before .before in
     let a = found .before .before .before .before .args in
-    subst (λ (o : Outcome). Rowed (outcomeSays o) (a .message .now) (put .put-message .result) (put .put-message .last .0))
+    subst (λ (o : Outcome). Rowed (outcomeSays o) (a .message .now) (put .put .result) (put .put .last .0))
     (sym (ap readSaid (known .read .given .1)) ∙ found .read-lent .ensures)
-    (rw said-row (put .put-message .ensures))
+    (rw (said-row, sym (made .row-of .ensures .0)) (put .put .ensures))
 
 returns-2 : tie.Need-returns-2
 unfolding readSays
@@ -60,7 +67,9 @@ mcv-read-spec =
     (tie.spec
     read-lent-requires
     enum-known-read
-    put-message-requires
+    row-of-requires
+    slice-aggregate-put
+    put-requires
     enum-known-refusal
     code-requires
     same-length

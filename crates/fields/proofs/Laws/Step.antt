@@ -9,10 +9,10 @@ use lib.ListN.{length, getD, take}
 use lib.Seq.{length-take-le, getD-take, take-take}
 use lib.Dec.{T, leb, eqb, leb→le, eqb→eq}
 use borrow.Author.Tests.{le-leb, eq-eqb, ne-eqb}
-use Rattle.octets.specs.Choice.{pick}
 use Rattle.octets.proofs.Choice.{T-true, T-false, T-and-left, T-and-right, decide, pick-true, pick-false, pick-cases}
 use Rattle.fields.specs.Header.{firstField}
 use Rattle.fields.specs.Walk.{valueEnd, nextAt, padding, fieldRight, fieldAt, stopFrom, field, end, refused, placeRight, stepOf}
+use Rattle.fields.specs.Inner.{pastField}
 use Rattle.fields.proofs.Laws.Walk.{next-after, right-next, right-end, padding-slice, stopFrom-pick, stopFrom-wrong}
 
 -- ---- the octets up to a field's end, and the walk over them
@@ -49,20 +49,26 @@ module _ (p : List ℕ) (at next : ℕ) (is : next ≡ nextAt p at) (ends : next
       rw (getD-part at (omega arith), next-part, padding-part, length-take-le next p ends, ← is, le-leb next next (omega arith), le-leb next (length p) ends)
 
   -- the walk stops behind a right field, and before a wrong one
-  stop-part : stopFrom (take next p) at ≡ pick (fieldRight p at) next at
+  pub stop-part : stopFrom (take next p) at ≡ pastField p at
   stop-part =
       let behind = stopFrom-wrong (take next p) next (right-end (take next p) next (omega (arith, length-take-le next p ends))) in
-      stopFrom-pick (take next p) at ∙ rw (right-part, next-part, behind)
+      stopFrom-pick (take next p) at ∙ rw (right-part, next-part, behind, is)
 
-  -- it comes to the field's end: the field is right
-  pub part-right : next ≤ stopFrom (take next p) at → T (fieldRight p at)
-  part-right h =
-      ⊎-elim (λ t. t) (λ e. absurd (omega (arith, stop-part ∙ pick-false (fieldRight p at) next at e, next-after p at))) (decide (fieldRight p at))
+-- ---- past a right field
 
-  -- it does not: the field is wrong
-  pub part-wrong : stopFrom (take next p) at < next → fieldRight p at ≡ false
-  part-wrong h =
-      T-false (fieldRight p at) (λ t. omega (arith, stop-part ∙ pick-true (fieldRight p at) next at (T-true (fieldRight p at) t)))
+module _ (p : List ℕ) (at : ℕ) where
+  -- the place itself: the field is wrong
+  pub past-none : pastField p at ≡ at → fieldRight p at ≡ false
+  past-none e =
+      T-false (fieldRight p at) (λ t. omega (arith, next-after p at, sym (pick-true (fieldRight p at) (nextAt p at) at (T-true (fieldRight p at) t)) ∙ e))
+
+  -- another: it is right, and ends there
+  pub past-some : (pastField p at ≡ at → ⊥) → T (fieldRight p at) × (pastField p at ≡ nextAt p at)
+  past-some n =
+      ⊎-elim
+      (λ t. (t, pick-true (fieldRight p at) (nextAt p at) at (T-true (fieldRight p at) t)))
+      (λ e. absurd (n (pick-false (fieldRight p at) (nextAt p at) at e)))
+      (decide (fieldRight p at))
 
 -- ---- what stands at a place
 
@@ -73,7 +79,7 @@ pub record Placed (p : List ℕ) (at : ℕ) : Type 0 where
   pub inside : at ≤ length p
 
 -- a right place is one
-right-place : (p : List ℕ) (at : ℕ) → T (placeRight p at) → Placed p at
+pub right-place : (p : List ℕ) (at : ℕ) → T (placeRight p at) → Placed p at
 unfolding placeRight
 right-place p at t =
     let word-inside = eqb (at % 4) 0 && leb at (length p) in
@@ -91,9 +97,12 @@ place-right p at o = rw (le-leb 12 at (o .least), eq-eqb (at % 4) 0 (o .word), l
 
 module _ (p : List ℕ) (at : ℕ) where
   -- a place that is not right is refused
-  pub step-misplaced : (Placed p at → ⊥) → stepOf p at ≡ refused 4 0
+  pub step-off : placeRight p at ≡ false → stepOf p at ≡ refused 4 0
   unfolding stepOf
-  step-misplaced n = rw (T-false (placeRight p at) (λ t. n (right-place p at t)))
+  step-off e = rw e
+
+  pub step-misplaced : (Placed p at → ⊥) → stepOf p at ≡ refused 4 0
+  step-misplaced n = step-off (T-false (placeRight p at) (λ t. n (right-place p at t)))
 
   -- the end of the packet
   pub step-end : 12 ≤ at → at % 4 ≡ 0 → at ≡ length p → stepOf p at ≡ end

@@ -20,7 +20,7 @@ use Rattle.packet.specs.declared.kind.Slot.{Slot}
 use Rattle.packet.specs.Judge.{faultOf}
 use Rattle.packet.specs.Kind.{Kind, kindOf, numbersOf}
 use Rattle.packet.specs.Reading.{Outcome, reads, refused, slotsIn, messageOf, readAs, readBy, readOf}
-use Rattle.plan.specs.Meaning.{Meaning, meaning}
+use Rattle.packet.specs.Meaning.{Meaning, meaning}
 use Rattle.streams.specs.declared.Event.{Event}
 use Rattle.streams.specs.declared.What.{What}
 use Rattle.streams.specs.declared.What.the-variants.{Request, End, Open, T11, EndResponse, Release}

@@ -9,13 +9,11 @@ use borrow.Author.Tests.{le-leb}
 use Rattle.octets.specs.Buffer.{over}
 use Rattle.octets.proofs.Buffer.{take-over}
 use Rattle.sheet_text.specs.Reading.{noRefusal}
-use Rattle.writing.specs.declared.Writing.{Writing}
-use Rattle.writing.specs.declared.Writing.the-variants.{Written}
-use Rattle.writing.specs.Writing.{made, told, after}
-use Rattle.writing.specs.Promises.{writing-apart}
+use Rattle.shown.specs.declared.Printing.{Printing}
+use Rattle.shown.specs.declared.Printing.the-variants.{Printed}
 use Rattle.look.specs.declared.Look.{Look}
 use Rattle.look.specs.declared.Stepped.{Stepped}
-use Rattle.look.specs.Steps.{State, inSheet, inLines, refusedSheet, Went, stepOf, endOf, isRefused, stateOf, lookAs, roomAsked, hasRoom, steppedOf, afterStep, endAs}
+use Rattle.look.specs.Steps.{State, inSheet, inLines, refusedSheet, Went, stepOf, endOf, isRefused, stateOf, lookAs, roomAsked, hasRoom, steppedOf, afterStep}
 use Rattle.look.specs.Promises.{end≡}
 use Rattle.look.specs.Claims.{Call, Called, CalledInTurn, printedBy, pieceOf, PiecesPrintTheWhole, RoomIsEnough, RefusedIsAll}
 use Rattle.look.proofs.Laws.Pieces.{printedFrom, pieces-whole}
@@ -56,21 +54,14 @@ room-is-enough look c h = ap (λ (s : Stepped). s .refusal) (called-said look c 
 
 -- ---- the end
 
--- where there is room, its text is made
-pub end-made : (look : Look) (out : List ℕ) → roomAsked 0 ≤ length out → endAs look (length out) ≡ made (endOf (stateOf look))
-unfolding endAs
-end-made look out room = rw (le-leb (roomAsked 0) (length out) room)
-
-module _ (look : Look) (out : List ℕ) (r : Writing) (now : List ℕ) (room : roomAsked 0 ≤ length out) (h : end≡ look out r now) where
-  -- it is written whole
-  end-written : r ≡ Written (length (endOf (stateOf look)))
-  unfolding told
-  end-written = writing-apart r (Written (length (endOf (stateOf look)))) (h .0 ∙ ap told (end-made look out room))
+module _ (look : Look) (out : List ℕ) (r : Printing) (now : List ℕ) (room : roomAsked 0 ≤ length out) (h : end≡ look out r now) where
+  -- it is printed whole
+  pub end-whole : (r ≡ Printed (length (endOf (stateOf look)))) × (now ≡ over (endOf (stateOf look)) out)
+  end-whole = let enough = le-leb (roomAsked 0) (length out) room in (h .0 ∙ rw enough, h .1 ∙ rw enough)
 
   -- into the front
   end-printed : take (length (endOf (stateOf look))) now ≡ endOf (stateOf look)
-  unfolding after
-  end-printed = rw (h .1, end-made look out room) (take-over (endOf (stateOf look)) out)
+  end-printed = rw (end-whole .1) (take-over (endOf (stateOf look)) out)
 
 -- ---- calls one after another
 
@@ -88,7 +79,7 @@ pub pieces-print-the-whole : PiecesPrintTheWhole
 pieces-print-the-whole first last calls out r now s h room e =
     let end = endOf (stateOf last) in (
       length end,
-      end-written last out r now room e,
+      end-whole last out r now room e .0,
       ap (λ (x : List ℕ). flatten (map printedBy calls) ++ x) (end-printed last out r now room e)
           ∙ calls-print calls first last h
           ∙ ap (λ (x : Look). printedFrom x (map pieceOf calls)) s

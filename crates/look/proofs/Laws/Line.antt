@@ -19,7 +19,8 @@ use Rattle.sheet_text.proofs.Laws.Readings.{outcome-reads}
 use Rattle.packet.specs.declared.Numbers.{Numbers}
 use Rattle.packet.specs.Kind.{numbersOf}
 use Rattle.packet.specs.Reading.{readBy}
-use Rattle.shown.specs.Line.{mostDigits, lineRight, packetIn, lineAs, lineOf, lineBy}
+use Rattle.hex.specs.Line.{mostDigits, lineRight, packetIn}
+use Rattle.shown.specs.Line.{lineAs, lineOf, lineBy}
 use Rattle.shown.proofs.Laws.Line.{under-a-sheet}
 use Rattle.look.specs.Steps.{keptOf}
 

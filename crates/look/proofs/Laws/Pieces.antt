@@ -19,7 +19,8 @@ use Rattle.sheet_text.proofs.Laws.Readings.{outcome-reads}
 use Rattle.sheet_text.proofs.Laws.Decides.{longest-decides}
 use Rattle.packet.specs.declared.Numbers.{Numbers}
 use Rattle.packet.specs.Kind.{numbersOf}
-use Rattle.shown.specs.Line.{mostDigits, lineBy, sheetLine}
+use Rattle.hex.specs.Line.{mostDigits}
+use Rattle.shown.specs.Line.{lineBy, sheetLine}
 use Rattle.look.specs.declared.Look.{Look}
 use Rattle.look.specs.Lines.{linesOf}
 use Rattle.look.specs.Look.{lookOf}

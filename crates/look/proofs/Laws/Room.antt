@@ -17,14 +17,16 @@ use Rattle.sheet_text.specs.Reading.{noRefusal, readOf}
 use Rattle.sheet_text.proofs.Laws.Readings.{read-at}
 use Rattle.packet.specs.declared.Numbers.{Numbers}
 use Rattle.packet.specs.Kind.{numbersOf}
-use Rattle.writing.specs.Writing.{wrote, refusedWith, told, after}
+use Rattle.shown.specs.declared.Printing.the-variants.{Printed, Refused as PrintingRefused}
+use Rattle.shown.specs.Printing.{noRoom}
 use Rattle.shown.specs.Line.{sheetLine}
 use Rattle.shown.proofs.Laws.Fits.{length-sheetLine}
 use Rattle.look.specs.declared.Phase.{Phase}
 use Rattle.look.specs.declared.Phase.the-variants.{Sheet, Lines, Refused}
 use Rattle.look.specs.declared.Look.{Look}
 use Rattle.look.specs.declared.Stepped.{Stepped}
-use Rattle.look.specs.Steps.{mostHeld, heldIn, heldOf, State, Went, inSheet, inLines, refusedSheet, stateOf, lookAs, fed, decided, stepOf, roomAsked, noRoom, hasRoom, steppedOf, afterStep, lastText, endOf, endAs, leftFrom, linesText}
+use Rattle.look.specs.Steps.{mostHeld, heldIn, heldOf, State, Went, inSheet, inLines, refusedSheet, stateOf, lookAs, fed, decided, stepOf, roomAsked, hasRoom, steppedOf, afterStep, lastText, endOf, leftFrom, linesText}
+use Rattle.look.specs.Promises.{end≡}
 use Rattle.look.specs.Inner.{WentTo}
 use Rattle.look.proofs.Laws.Fits.{lines-fit, last-fits}
 use Rattle.look.proofs.Laws.Pieces.{kept-back, decided-kept}
@@ -115,14 +117,12 @@ module _ (look : Look) where
 
   module _ (out : List ℕ) where
     -- without room nothing is printed
-    pub end-none : length out < roomAsked 0 → (refusedWith 11 0 ≡ told (endAs look (length out))) × (out ≡ after (endAs look (length out)) out)
-    unfolding endAs told after
+    pub end-none : length out < roomAsked 0 → end≡ look out (PrintingRefused noRoom) out
     end-none h = let e = lt-leb (roomAsked 0) (length out) h in (rw e, rw e)
 
     -- with room the text is put into the front
     pub end-done : roomAsked 0 ≤ length out → (end : ℕ) (now : List ℕ) → end ≡ 0 + length (endOf (stateOf look)) → now ≡ putAt out 0 (endOf (stateOf look))
-        → length (endOf (stateOf look)) ≤ length out → (wrote end ≡ told (endAs look (length out))) × (now ≡ after (endAs look (length out)) out)
-    unfolding endAs told after
+        → length (endOf (stateOf look)) ≤ length out → end≡ look out (Printed end) now
     end-done h end now i p fits =
         let e = le-leb (roomAsked 0) (length out) h in
         (rw (e, i, zero-add), rw (e, over-putAt (endOf (stateOf look)) out fits) p)

@@ -18,7 +18,8 @@ use Rattle.sheet_text.specs.Line.{lf}
 use Rattle.sheet_text.specs.Reading.{readOf}
 use Rattle.packet.specs.Kind.{numbersOf}
 use Rattle.packet.specs.declared.Numbers.{Numbers}
-use Rattle.shown.specs.Line.{mostDigits, lineBy, sheetLine, lineRoom}
+use Rattle.hex.specs.Line.{mostDigits}
+use Rattle.shown.specs.Line.{lineBy, sheetLine, lineRoom}
 use Rattle.shown.specs.Promises.{Put, put≡}
 use Rattle.shown.proofs.Laws.Fits.{line-fits, fitting-whole}
 use Rattle.look.specs.declared.held.Held.{Held}

@@ -5,7 +5,7 @@ use mathlib.Core.List.{[]}
 use Prim.Native.Nat.{_+_, _-_, _*_, _≤_}
 use borrow.Author.Needs.{needs}
 use native.Mathlib.Omega.{arith}
-use lib.ListN.{length, take, drop, length-drop}
+use lib.ListN.{length, take, drop, length-take, length-drop}
 use lib.Seq.{length-take-le, take-all}
 use Rattle.octets.proofs.Buffer.{length-putAt}
 use Rattle.sheet_text.specs.Reading.{readOf}
@@ -33,6 +33,14 @@ sheet c = c .read .ensures ∙ ap readOf (text (c .before .before))
 -- no more is held than decides it
 most : (c : tie.Start) → length (heldIn (c .args .held)) ≤ 1024
 most c = held-most (c .args .held) (search needs)
+
+-- as many octets as are held are its text
+long : (c : tie.After-read)
+    → let h = c .before .before .before .before .before .before .args .held in
+    length (take (c .before .before .length-of .result) (h .octets)) ≡ c .before .before .length-of .result
+long c =
+    let h = c .before .before .before .before .before .before .args .held in
+    length-take-le _ (h .octets) (omega (arith, held-within h, c .before .before .length-of .ensures))
 
 -- its lines lie within
 within : (c : tie.After-read)
@@ -111,10 +119,10 @@ none-requires : tie.Need-none-requires
 none-requires c κs = search needs
 
 sub-put-lines : tie.Need-sub-put-lines
-sub-put-lines c = within (c .before .before .before .before .before .before)
+sub-put-lines c = let read = c .before .before .before .before .before .before in omega (arith, within read, long read)
 
 part-put-lines-start : tie.Need-part-put-lines-start
-part-put-lines-start c = within (c .before .before .before .before .before .before)
+part-put-lines-start c = let read = c .before .before .before .before .before .before in omega (arith, within read, long read)
 
 part-put-lines-end : tie.Need-part-put-lines-end
 part-put-lines-end c = search needs
@@ -122,7 +130,8 @@ part-put-lines-end c = search needs
 put-lines-requires : tie.Need-put-lines-requires
 put-lines-requires c κs =
     let read = c .before .before .before .before .before .before .before in
-    rw (held-none (c .before .none .result) (c .before .none .ensures), behind read) (omega (arith, room read))
+    let start = read .before .before .before .before .before .before in
+    rw (held-none (c .before .none .result) (c .before .none .ensures)) (simp (length-take, length-drop) (omega (arith, most start, start .pre .1, long read)))
 
 -- the lines behind the sheet are printed, and the last of them is held
 lines : (c : tie.After-put-lines)

@@ -16,7 +16,7 @@ use Rattle.sheet.specs.Value as value
 use Rattle.sheet.specs.Value.{validWith, validAlone}
 use Rattle.sheet.proofs.Laws.Bounds.{valid-within}
 use Rattle.packet.specs.Kind.{Kind, kinds, mayLack, mayHave, isResult, grants, numbersOf}
-use Rattle.plan.specs.Meaning.{Meaning}
+use Rattle.packet.specs.Meaning.{Meaning}
 use Rattle.plan.specs.Packet.{within, holds, isNothing, takes, takesAll, isOne, writable, packetAs, kindWith, packetOf}
 use Rattle.writing.specs.Writing.{Made, made, refused, roomFor}
 use Rattle.writing.proofs.Laws.Back.{packet-reads}
@@ -29,7 +29,8 @@ use Rattle.reception.specs.Steps.{gives}
 use Rattle.reception.proofs.Laws.Steps.{check-gives}
 use Rattle.sheet.specs.Find.{userOf}
 use Rattle.outgoing.specs.Sending.{valuesOut, messageOut, parcel, parcelOf, sendingOf}
-use Rattle.outgoing.specs.Claims.{messageFor, narrow, SendsNamed, SendsExactly, SendingRefused}
+use Rattle.rows.specs.Claims.{Narrow}
+use Rattle.outgoing.specs.Claims.{messageFor, SendsNamed, SendsExactly, SendingRefused}
 use Rattle.outgoing.proofs.Laws.Answers.{sending-invalid, sending-off, sending-on}
 use Rattle.sheet.proofs.Laws.Seats.{valid-alone, user-right}
 
@@ -73,16 +74,16 @@ module _ (s : Sheet) (v : T (validAlone s)) (transmitter : List ℕ) where
       (packetAs k (messageOut (s .server) transmitter m), rw (e, T-true (within 4 (s .server)) narrow-server, takes-all))
 
   -- and so has every answer's
-  out-sendable : T (userId transmitter) → (a : Answer) → T (narrow (messageOf a)) → Sendable s transmitter (messageOf a)
+  out-sendable : T (userId transmitter) → (a : Answer) → Narrow (messageOf a) → Sendable s transmitter (messageOf a)
   unfolding kindWith kinds numbersOf valuesOut takesAll takes isNothing mayLack mayHave holds grants isResult isOne
   out-sendable u GrantedFirst t = taken-out _ _ refl tt
   out-sendable u Granted t = taken-out _ _ refl tt
   out-sendable u GrantedAgain t = taken-out _ _ refl tt
-  out-sendable u (Rejected cause) t = taken-out _ _ refl (rw (T-true (within 2 cause) t) tt)
+  out-sendable u (Rejected cause) t = taken-out _ _ refl (rw (T-true (within 2 cause) (lt→ltb cause 65536 t)) tt)
   out-sendable u Ended t = taken-out _ _ refl (rw (T-true (userId transmitter) u) tt)
   out-sendable u EndedLast t = taken-out _ _ refl (rw (T-true (userId transmitter) u) tt)
   out-sendable u Opened t = tt
-  out-sendable u (EndRequested cause) t = taken-out _ _ refl (rw (T-true (within 2 cause) t) tt)
+  out-sendable u (EndRequested cause) t = taken-out _ _ refl (rw (T-true (within 2 cause) (lt→ltb cause 65536 t)) tt)
   out-sendable u Freed t = tt
   out-sendable u FreedWithAck t = taken-out _ _ refl tt
   out-sendable u ReleasedIdle t = tt
@@ -97,7 +98,7 @@ parcel-some : (room : ℕ) (o : Option (List ℕ)) (p : List ℕ) → parcel (ro
 unfolding roomFor
 parcel-some room none p e = let z : _≡_ {A = ℕ} 0 1 = cc in absurd (omega arith)
 parcel-some room (some q) p e =
-    pick-cases (λ (w : Made). parcel w ≡ gives (some p) → some q ≡ some p) (leb (length q) room) (made q) (refused 11 0)
+    pick-cases (λ (w : Made). parcel w ≡ gives (some p) → some q ≡ some p) (leb (length q) room) (made q) (refused 11)
     (λ t x. cc)
     (λ f x. cc)
     e

@@ -10,10 +10,10 @@ use native.Mathlib.Nat.{zero-add}
 use native.Mathlib.Numerals.{add-one}
 use native.Mathlib.Omega.{arith}
 use lib.ListN.{length, getD, set, replicate, getElem?, length-append}
-use lib.Dec.{T, leb, eqb, eqb-refl, leb·zero, leb·suc-zero, leb·suc-suc, le→leb}
+use lib.Dec.{T, leb, eqb, eqb-refl, leb·zero, leb·suc-zero, leb·suc-suc, le→leb, leb→le}
 use borrow.Author.Tests.{eqb-true, ne-eqb, le-leb, lt-leb}
 use Rattle.octets.specs.Choice.{pick, every, some-of}
-use Rattle.octets.proofs.Choice.{T-true, decide, T-and, T-and-left, T-and-right}
+use Rattle.octets.proofs.Choice.{T-true, decide, T-and, T-and-left, T-and-right, every-getD}
 use Rattle.octets.proofs.Lists.{getElem?-snoc, getElem?-snoc-other}
 use Rattle.octets.proofs.Keep.{every-kept, keep-snoc-true, keep-snoc-false}
 use Rattle.octets.proofs.Places.{eqb-comm}
@@ -149,6 +149,12 @@ module _ (p : List ℕ) where
     pub inside-places : 4 ≤ length p → (slots : List Slot) → PlacesInside p (placesIn slots fs)
     unfolding PlacesInside placesIn filledIn
     inside-places h slots = inside-behind h [] slots
+
+-- .. at any of them
+pub place-inside : (p places : List ℕ) (i : ℕ) → PlacesInside p places → i < length places → getD places i 0 + 4 ≤ length p
+unfolding PlacesInside
+place-inside p places i t h =
+    leb→le (getD places i 0 + 4) (length p) (every-getD (λ (a : ℕ). leb (a + 4) (length p)) places i 0 t h)
 
 -- ---- one field more
 

@@ -17,16 +17,19 @@ returns : tie.Need-returns
 unfolding readOf
 returns c = rw (c .refused .ensures, sym (c .before .before .are-valid .ensures) ∙ not-true _ (c .before .if1 .taken))
 
-read-by-lent-requires : tie.Need-read-by-lent-requires
-read-by-lent-requires c κs = search needs
+found-lent-requires : tie.Need-found-lent-requires
+found-lent-requires c κs = search needs
+
+told-requires : tie.Need-told-requires
+told-requires c κs = c .found-lent .ensures .sorted
 
 returns-2 : tie.Need-returns-2
 unfolding readOf
 returns-2 c =
-    let else1 = c .before in
-    rw (c .read-by-lent .ensures, sym (else1 .before .are-valid .ensures) ∙ not-false _ (else1 .if1 .left))
+    let else1 = c .before .before in
+    rw (c .told .ensures, c .before .found-lent .ensures .told, sym (else1 .before .are-valid .ensures) ∙ not-false _ (else1 .if1 .left))
 
 pub read-lent-spec : {M : Type 1} → statement M
 read-lent-spec =
     tie.close
-    (tie.spec are-valid-requires refused-requires returns read-by-lent-requires returns-2)
+    (tie.spec are-valid-requires refused-requires returns found-lent-requires told-requires returns-2)

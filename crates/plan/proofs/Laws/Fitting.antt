@@ -1,12 +1,12 @@
 -- Laws of a sheet's numbers: which of them go into a packet, and that a valid sheet's do. Assumes nothing.
-use mathlib.Core.Path.{_≡_, refl}
-use mathlib.Core.Bool.{Bool, false, _&&_, and-true, and-assoc, and-comm}
+use mathlib.Core.Path.{_≡_, refl, ap}
+use mathlib.Core.Bool.{Bool, true, false, _&&_, and-true, and-assoc, and-comm}
 use mathlib.Core.List.{List, _++_}
-use Prim.Native.Nat.{ℕ, _+_, _<_, _≤_}
+use Prim.Native.Nat.{ℕ, zero, suc, _+_, _-_, _<_, _≤_}
 use native.Mathlib.Numerals.{add-one}
 use native.Mathlib.Omega.{arith}
 use lib.ListN.{length, getD}
-use lib.Seq.{slice, slice-cons}
+use lib.Seq.{slice, slice-cons, slice-empty}
 use lib.Dec.{T, ltb, eqb, eqb→eq, ltb→lt, lit<}
 use borrow.Author.Tests.{lt-ltb, eq-eqb, ne-eqb}
 use Rattle.octets.specs.Choice.{every}
@@ -33,6 +33,10 @@ shortFrom ns k = every short (slice k 9 ns)
 -- .. if line k's does, and those behind it do
 pub shortFrom-next : (ns : List ℕ) (k : ℕ) → k < 9 → 9 ≤ length ns → shortFrom ns k ≡ (short (getD ns k 0) && shortFrom ns (k + 1))
 shortFrom-next ns k h l = rw (add-one, slice-cons k 9 ns 0 h l)
+
+-- past the last there is none
+pub shortFrom-end : (ns : List ℕ) → shortFrom ns 9 ≡ true
+shortFrom-end ns = ap (every short) (slice-empty 9 ns)
 
 -- numbers fit if the messages' go into four bits, and the Result's ID, on line 9, is below 192
 pub fits-is : (s : Sheet) (ns : List ℕ) → ns ≡ value.numbersOf s ++ s .ssrcs → fits (numbersOf s) ≡ (shortFrom ns 2 && ltb (getD ns 9 0) 192)
@@ -62,6 +66,19 @@ small s t =
     let at : (i : ℕ) → i < 7 → getD messages i 0 < 16 =
     λ i l. ltb→lt (getD messages i 0) 16 (every-getD short messages i 0 (T-and-left (every short messages) id u) l) in
     omega (arith, at 0 (lit< tt), at 1 (lit< tt), at 2 (lit< tt), at 3 (lit< tt), at 4 (lit< tt), at 5 (lit< tt), at 6 (lit< tt))
+
+-- by its kind
+pub small-kind : (ns : List ℕ) → T (fits (numbersOf (value.sheetFrom ns))) → (kind : ℕ) → 1 ≤ kind → kind ≤ 7 → getD ns (1 + kind) 0 < 16
+unfolding value.sheetFrom value.sheetBy
+small-kind ns t (suc zero) h l = small _ t .request
+small-kind ns t (suc (suc zero)) h l = small _ t .response
+small-kind ns t (suc (suc (suc zero))) h l = small _ t .endrequest
+small-kind ns t (suc (suc (suc (suc zero)))) h l = small _ t .endresponse
+small-kind ns t (suc (suc (suc (suc (suc zero))))) h l = small _ t .txend
+small-kind ns t (suc (suc (suc (suc (suc (suc zero)))))) h l = small _ t .txendresponse
+small-kind ns t (suc (suc (suc (suc (suc (suc (suc zero))))))) h l = small _ t .ack
+small-kind ns t zero h l = absurd (omega arith)
+small-kind ns t (suc (suc (suc (suc (suc (suc (suc (suc n)))))))) h l = absurd (omega arith)
 
 -- a valid sheet's numbers fit: each is within its line's bounds
 pub valid-fits : (s : Sheet) → T (validAlone s) → T (fits (numbersOf s))

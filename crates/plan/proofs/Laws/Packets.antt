@@ -17,7 +17,7 @@ use Rattle.packet.specs.declared.Message.the-variants.{ReceiveRequest, ReceiveR
 use Rattle.packet.specs.Kind.{Row, Kind, indicator, kinds, numbersOf, mayHave, isResult, grants}
 use Rattle.packet.specs.Reading.{Outcome}
 use Rattle.packet.specs.Message.{indicatorSaid, messageSaid}
-use Rattle.plan.specs.Meaning.{Value, Meaning, valueIn, meaning}
+use Rattle.packet.specs.Meaning.{Value, Meaning, valueIn, meaning}
 use Rattle.plan.specs.Packet.{within, holds, isNothing, takes, takesAll, isOne, writable, packetAs, kindWith, packetOf, packetFor}
 use Rattle.plan.specs.Inner.{indicatorWithin, inWidth}
 

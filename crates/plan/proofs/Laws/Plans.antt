@@ -28,10 +28,10 @@ use Rattle.packet.specs.Kind.{Row, Kind, user, indicator, kinds, mayLack, mayHa
 use Rattle.packet.specs.Message.{nameSaid, indicatorSaid, messageSaid}
 use Rattle.plan.specs.declared.Part.{Part}
 use Rattle.plan.specs.declared.Part.the-variants.{Absent as NoPart, Named}
-use Rattle.plan.specs.Meaning.{Value, nothing, numeral, valueIn, meaning}
+use Rattle.packet.specs.Meaning.{Value, nothing, numeral, valueIn, meaning}
 use Rattle.plan.specs.Packet.{within, holds, isNothing, takes, takesAll, isOne, writable, octetsFor, contentsFor, packetAs, kindWith, packetOf, packetFor, fits}
 use Rattle.plan.specs.Plan.{partSaid, planSaid, fieldFor, planAs, planBy, partOctets, partRight, planPacket}
-use Rattle.plan.specs.Inner.{numberPart, indicatorPart, planWith, planFor, indicatorWithin, inWidth, planned}
+use Rattle.plan.specs.Inner.{numberPart, indicatorPart, fieldsWith, planWith, planFor, indicatorWithin, inWidth, planned}
 use Rattle.plan.proofs.Laws.Fitting.{small}
 use Rattle.plan.proofs.Laws.Parts.{laid-number}
 
@@ -138,7 +138,7 @@ module _ {names : List ℕ} {grant : Bool} where
 planned-as : (s : Sheet) (kind letters : ℕ) (h : Head) {names : List ℕ} {k : Kind} {values : List Value} {first second third : Part}
     → kindWith kind (kinds (numbersOf s)) ≡ some k → bigOf 4 letters ≡ k .letters → T (within 4 (h .ssrc))
     → Made names (grants isOne (k .rows) values) (k .rows) values (first ∷ second ∷ third ∷ [])
-    → planned names (planWith h letters (k .number) first second third)
+    → planned names (planWith h letters (k .number) (fieldsWith first second third))
     ≡ packetFor s (some (record { kind = kind; ssrc = h .ssrc; ack = h .ack; values = values }))
 unfolding planned planPacket packetFor packetOf writable packetAs
 planned-as s kind letters h {names} {k} {values} {first} {second} {third} e l w m =

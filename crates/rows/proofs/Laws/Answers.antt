@@ -17,6 +17,7 @@ use Rattle.streams.specs.declared.Answer.the-variants.{GrantedFirst, Granted, G
 use Rattle.streams.specs.Answer.{Sent, reply, doneBy, messageOf, timersOf}
 use Rattle.streams.specs.Answer.{messageOf}
 use Rattle.rows.specs.Rows.{timersSum, replyRow, answerRow, answersFor, answerIn}
+use Rattle.rows.specs.Promises.{row-of≡}
 use Rattle.rows.specs.Claims.{Narrow}
 use Rattle.rows.specs.Inner.{likelyAnswers, likelyAnswer}
 use Rattle.rows.proofs.Laws.Whose.{all-getD, all-weaker, getD-rest, whose-none, whose-some}
@@ -107,6 +108,13 @@ answer-known row e =
 pub answer-none : (row : List ℕ) → (answerRow (likelyIn row) ≡ row → ⊥) → answerIn row ≡ none
 unfolding answerIn
 answer-none row n = whose-none answerRow likelyIn row (answersFor (getD row 3 0)) (likely-each (getD row 3 0)) n
+
+-- an answer's own row stands for it
+pub own-answer : (a : Answer) → NarrowAnswer a → answerIn (answerRow a) ≡ some a
+own-answer a h = let own = likely-own a h in answer-known (answerRow a) (ap answerRow own) ∙ ap some own
+
+pub own-row : (a : Answer) → NarrowAnswer a → row-of≡ a (answerRow a)
+own-row a h = (refl, own-answer a h)
 
 -- an answer's row has six numbers
 pub answer-length : (a : Answer) → length (answerRow a) ≡ 6

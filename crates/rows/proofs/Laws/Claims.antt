@@ -19,8 +19,7 @@ use Rattle.rows.specs.Claims.{RecordsStand, EventsStand, Narrow, Answers
 use Rattle.rows.proofs.Laws.Records.{record-in, record-row, length-row, records-counted, records-right}
 use Rattle.rows.proofs.Laws.Events.{event-known, event-row}
 use Rattle.rows.proofs.Laws.Events.{likely-own as event-own}
-use Rattle.rows.proofs.Laws.Answers.{narrow-each, answer-known, answer-length}
-use Rattle.rows.proofs.Laws.Answers.{likely-own as answer-own}
+use Rattle.rows.proofs.Laws.Answers.{narrow-each, own-answer, answer-length}
 use Rattle.rows.proofs.Laws.Attempts.{tried}
 
 -- ---- records
@@ -57,9 +56,7 @@ answers-stand row a = (
       let cause = getD row 3 0 in
       let first = first-all (λ b. same (answerRow b) row) a (λ b. Narrow (messageOf b)) (answersFor cause) (narrow-each cause) e in
       (first .0, same-eq (answerRow a) row (first .1)),
-  λ w.
-      let own = answer-own a (w .0) in
-      subst (λ (r : List ℕ). answerIn r ≡ some a) (w .1) (answer-known (answerRow a) (ap answerRow own) ∙ ap some own),
+  λ w. subst (λ (r : List ℕ). answerIn r ≡ some a) (w .1) (own-answer a (w .0)),
 )
 
 -- ---- attempts

@@ -6,14 +6,14 @@ use mathlib.Core.List.{List, [], _∷_, _++_, map, map-append}
 use Prim.Native.Nat.{ℕ, zero, suc, _+_, _-_, _≤_, _<_, zero-le}
 use native.Mathlib.Nat.{le-refl, add-zero}
 use native.Mathlib.Omega.{arith}
-use lib.ListN.{length, getD, set, take, drop, replicate, take-append-drop, length-append, length-map, length-drop, getD-replicate, length-replicate, List·getD-append, List·getD-eq-default, drop-of-length-le}
-use lib.Seq.{drop-append-le, drop-drop, getD-at, getD-append-add, length-take-le}
-use lib.Dec.{T, leb}
-use borrow.Author.Tests.{le-leb, lt-leb}
+use lib.ListN.{length, getD, set, take, drop, replicate, take-append-drop, length-append, length-map, length-drop, getD-replicate, length-replicate, drop-of-length-le}
+use lib.Seq.{drop-append-le, drop-drop, getD-append-add, length-take-le}
+use lib.Dec.{T, leb, eqb}
+use borrow.Author.Tests.{le-leb, lt-leb, eq-eqb, ne-eqb}
 use Rattle.octets.specs.Choice.{pick, same, begins, some-of}
 use Rattle.octets.specs.Buffer.{padded, over, putAt}
 use Rattle.octets.proofs.Lists.{map-drop, drop-replicate}
-use Rattle.octets.proofs.Choice.{T-true, T-false, le-or-lt, T-and-left, T-and-right}
+use Rattle.octets.proofs.Choice.{true-T, false-T, T-true, T-false, le-or-lt, T-and-left, T-and-right, pick-true, pick-false, pick-cases}
 use Rattle.octets.proofs.Buffer.{over-putAt, take-padded, set-padded, getD-padded, padded-full, padded-nil}
 use Rattle.sheet.specs.Table.{table, numberLines, seatsLine, mostSeats, rowAt}
 use Rattle.sheet.specs.Judge.{Entry, numbersIn, namesIn, goodNumber, longestName, userId, goodName, good, inTurn, whole}
@@ -25,7 +25,7 @@ use Rattle.sheet.proofs.Laws.Fresh.{seats-bound}
 use Rattle.sheet.proofs.Laws.Names.{no-name, seat-named, new-among}
 use Rattle.sheet.proofs.Laws.Laid.{alone-take, nameOf-rowOf, seat-name}
 use Rattle.sheet_text.specs.Line.{lineOf, entryIn, textFrom, textOf}
-use Rattle.sheet_text.specs.Reading.{Outcome, reads, refused, goodLine, behind, readBy, outcome, noRefusal, readingOf, usersFrom, readOf, usersIn}
+use Rattle.sheet_text.specs.Reading.{Outcome, reads, refused, goodLine, behind, readBy, outcome, noRefusal, readingOf, usersFrom, readOf, usersIn, usersOver}
 use Rattle.sheet_text.specs.Inner.{goodAt, JudgedIs}
 use Rattle.sheet_text.specs.declared.line.Line.the-variants.{Good}
 use Rattle.sheet_text.proofs.Laws.Lines.{length-textOf-snoc}
@@ -106,24 +106,27 @@ line-judged t at b g =
 
 -- ---- what the pass holds
 
--- after the lines of some entries: their numbers and User IDs laid out, the place behind them, how many lines there are as
--- far as is known, and the same outcome as from the start
-pub record Scanned (t numbers : List ℕ) (users : List (List ℕ)) (total at k : ℕ) : Type 0 where
+-- how many lines there are, as far as these numbers say
+abbrev pub linesIn : List ℕ → ℕ
+linesIn ns = numberLines + seatsIn ns
+
+-- after the lines of some entries: their numbers and User IDs laid out, the place behind them, and the same outcome as from the
+-- start
+pub record Scanned (t numbers : List ℕ) (users : List (List ℕ)) (at k : ℕ) : Type 0 where
   pub before : List Entry
   pub fuel : ℕ
   pub count : length before ≡ k
   pub goods : T (inTurn good [] before)
   pub numbers-are : numbers ≡ padded room 0 (numbersIn before)
   pub users-are : users ≡ usersOf before
-  pub total-is : total ≡ numberLines + seatsIn (numbersIn before)
-  pub fits : k ≤ total
+  pub fits : k ≤ linesIn numbers
   pub place : at ≡ length (textOf before)
   pub inside : at ≤ length t
   pub enough : length (drop at t) ≤ fuel
   pub same-outcome : readBy fuel before (drop at t) ≡ outcome t
 
 -- before the first line
-pub scanned-none : (t : List ℕ) → Scanned t (replicate room 0) (usersOf []) numberLines 0 0
+pub scanned-none : (t : List ℕ) → Scanned t (replicate room 0) (usersOf []) 0 0
 unfolding inTurn padded numberLines table seatsLine textOf textFrom outcome
 scanned-none t =
     record {
@@ -133,7 +136,6 @@ scanned-none t =
       goods = tt;
       numbers-are = sym (padded-nil room 0);
       users-are = refl;
-      total-is = refl;
       fits = zero-le;
       place = refl;
       inside = zero-le;
@@ -141,7 +143,7 @@ scanned-none t =
       same-outcome = refl;
     }
 
-module _ {t numbers : List ℕ} {users : List (List ℕ)} {total at k : ℕ} (i : Scanned t numbers users total at k) where
+module _ {t numbers : List ℕ} {users : List (List ℕ)} {at k : ℕ} (i : Scanned t numbers users at k) where
   abbrev es : List Entry
   es = i .before
 
@@ -152,30 +154,34 @@ module _ {t numbers : List ℕ} {users : List (List ℕ)} {total at k : ℕ} (i 
       ∙ ap (λ (n : ℕ). goodAt t at n (padded room 0 (numbersIn es)) (usersOf es)) (sym (i .count))
       ∙ line-judged t at es (i .goods)
 
-  -- a sheet has no more lines than the arrays have room for
-  pub scanned-room : total ≤ room
-  unfolding numberLines table mostSeats
-  scanned-room = let b : seatsIn (numbersIn es) ≤ mostSeats = seats-bound (numbersIn es) (good-numbers [] es (i .goods)) in omega (arith, i .total-is)
+  -- the numbers laid out say what the entries' do
+  scanned-lines : linesIn numbers ≡ linesIn (numbersIn es)
+  scanned-lines = ap linesIn (i .numbers-are) ∙ ap (λ (n : ℕ). numberLines + n) (getD-padded room 0 (numbersIn es) seatsLine)
 
-  open-line : k < total → whole (numbersIn es) ≡ false
+  -- a sheet has no more lines than the arrays have room for
+  pub scanned-room : linesIn numbers ≤ room
+  unfolding numberLines table mostSeats
+  scanned-room = let b : seatsIn (numbersIn es) ≤ mostSeats = seats-bound (numbersIn es) (good-numbers [] es (i .goods)) in omega (arith, scanned-lines)
+
+  open-line : k < linesIn numbers → whole (numbersIn es) ≡ false
   open-line h =
       T-false (whole (numbersIn es))
-      (λ w. let e = whole-eq (numbersIn es) w in let l = length-numbersIn es in omega (arith, i .total-is, i .count))
+      (λ w. let e = whole-eq (numbersIn es) w in let l = length-numbersIn es in omega (arith, scanned-lines, i .count))
 
   -- a bad line is the one that is named
-  pub scanned-bad : k < total → goodAt t at k numbers users ≡ false → outcome t ≡ refused (k + 1)
+  pub scanned-bad : k < linesIn numbers → goodAt t at k numbers users ≡ false → outcome t ≡ refused (k + 1)
   scanned-bad h g =
       sym (i .same-outcome)
       ∙ readBy-bad (i .fuel) es (drop at t) (open-line h) (sym scanned-judged ∙ g)
       ∙ ap (λ (n : ℕ). refused (n + 1)) (i .count)
 
   -- behind the last line the sheet is read
-  pub scanned-all : total ≤ k → outcome t ≡ reads es
+  pub scanned-all : linesIn numbers ≤ k → outcome t ≡ reads es
   scanned-all h =
       sym (i .same-outcome)
       ∙ readBy-whole (i .fuel) es (drop at t)
       (T-true (whole (numbersIn es))
-      (eq-whole (numbersIn es) (let l = length-numbersIn es in omega (arith, i .fits, i .total-is, i .count))))
+      (eq-whole (numbersIn es) (let l = length-numbersIn es in omega (arith, i .fits, scanned-lines, i .count))))
 
 -- ---- one good line more
 
@@ -218,7 +224,7 @@ users-more b e h m =
     ∙ ap (λ (j : ℕ). set (padded mostSeats (rowOf []) rows) j (rowOf (e .name))) l
     ∙ ap (λ (row : List ℕ). set (padded mostSeats (rowOf []) rows) (length b - numberLines) row) (sym (over-zeros (e .name)) ∙ ap (λ (row : List ℕ). over (e .name) row) (sym (next-row b m)))
 
-module _ {t numbers : List ℕ} {users : List (List ℕ)} {total at k : ℕ} (i : Scanned t numbers users total at k) (h : k < total) where
+module _ {t numbers : List ℕ} {users : List (List ℕ)} {at k : ℕ} (i : Scanned t numbers users at k) (h : k < linesIn numbers) where
   -- the entry in the line
   abbrev pub next : Entry
   next = entryIn (rowAt k) (drop at t)
@@ -257,31 +263,12 @@ module _ {t numbers : List ℕ} {users : List (List ℕ)} {total at k : ℕ} (i 
       ∙ ap (λ (n : ℕ). set (usersOf (i .before)) (n - numberLines) (over (next .name) (getD (usersOf (i .before)) (n - numberLines) []))) (sym (i .count))
       ∙ sym m
 
-  -- the line seats says how many lines there are, and any other leaves that as it was
-  pub total-seats : k + 1 ≡ numberLines → numberLines + next .number ≡ numberLines + seatsIn (numbersIn more)
-  unfolding numberLines table seatsLine
-  total-seats l =
-      ap (λ (n : ℕ). numberLines + n)
-      (sym (ap (λ (ns : List ℕ). seatsIn ns) next-numbers ∙ getD-at (numbersIn (i .before)) (next .number) [] 0 seatsLine (let c = length-numbers in omega arith)))
-
-  -- any other line leaves their count
-  pub total-other : (k + 1 ≡ numberLines → ⊥) → total ≡ numberLines + seatsIn (numbersIn more)
-  unfolding numberLines table seatsLine
-  total-other l =
-      let c = length-numbers in
-      let d : length (numbersIn (i .before) ++ (next .number ∷ [])) ≡ k + 1 = length-append (numbersIn (i .before)) (next .number ∷ []) ∙ ap (λ (n : ℕ). n + 1) c in
-      i .total-is
-      ∙ ap (λ (n : ℕ). numberLines + n)
-      (⊎-elim
-      (λ m. sym (List·getD-append (numbersIn (i .before)) (next .number ∷ []) 0 seatsLine (omega arith)))
-      (λ m. List·getD-eq-default (numbersIn (i .before)) 0 {n = seatsLine} (omega arith) ∙ sym (List·getD-eq-default (numbersIn (i .before) ++ (next .number ∷ [])) 0 {n = seatsLine} (omega arith)))
-      (le-or-lt numberLines k)
-      ∙ sym (ap (λ (ns : List ℕ). seatsIn ns) next-numbers))
-
-  fits-next : (total′ : ℕ) → total′ ≡ numberLines + seatsIn (numbersIn more) → k + 1 ≤ total′
-  fits-next total′ n =
+  fits-next : k + 1 ≤ linesIn (set numbers k (next .number))
+  fits-next =
+      let n : linesIn (set numbers k (next .number)) ≡ linesIn (numbersIn more) =
+      ap linesIn numbers-next ∙ ap (λ (n : ℕ). numberLines + n) (getD-padded room 0 (numbersIn more) seatsLine) in
       let l : length (numbersIn more) ≡ k + 1 = length-numbersIn more ∙ length-append (i .before) (next ∷ []) ∙ ap (λ (m : ℕ). m + 1) (i .count) in
-      let o : Open (numbersIn (i .before)) = let c = length-numbers in omega (arith, i .fits, i .total-is) in
+      let o : Open (numbersIn (i .before)) = let c = length-numbers in omega (arith, i .fits, scanned-lines i) in
       let q : Open (numbersIn more) = subst (λ (ns : List ℕ). Open ns) (sym next-numbers) (open-more (numbersIn (i .before)) (next .number) o (open-line i h)) in
       omega arith
 
@@ -313,9 +300,9 @@ module _ {t numbers : List ℕ} {users : List (List ℕ)} {total at k : ℕ} (i 
         )
 
     -- what the pass holds behind it
-    pub scanned-more : (users′ : List (List ℕ)) (total′ at′ : ℕ) → users′ ≡ usersOf more → total′ ≡ numberLines + seatsIn (numbersIn more)
-        → at′ ≡ at + length (lineOf (rowAt k) next) → at′ ≤ length t → Scanned t (set numbers k (next .number)) users′ total′ at′ (k + 1)
-    scanned-more users′ total′ at′ u n a l =
+    pub scanned-more : (users′ : List (List ℕ)) (at′ : ℕ) → users′ ≡ usersOf more
+        → at′ ≡ at + length (lineOf (rowAt k) next) → at′ ≤ length t → Scanned t (set numbers k (next .number)) users′ at′ (k + 1)
+    scanned-more users′ at′ u a l =
         let r = reading-next (i .fuel) (i .enough) (i .same-outcome) in
         let c : length more ≡ k + 1 = length-append (i .before) (next ∷ []) ∙ ap (λ (m : ℕ). m + 1) (i .count) in
         record {
@@ -325,8 +312,7 @@ module _ {t numbers : List ℕ} {users : List (List ℕ)} {total at k : ℕ} (i 
           goods = inTurn-snoc good (i .before) next (i .goods) (subst (λ (e : Entry). T (good (i .before) e)) next-is (goodLine-good (i .before) (drop at t) good-next));
           numbers-are = numbers-next;
           users-are = u;
-          total-is = n;
-          fits = fits-next total′ n;
+          fits = fits-next;
           place = a ∙ place-next;
           inside = l;
           enough = rw a (r .1);
@@ -335,7 +321,7 @@ module _ {t numbers : List ℕ} {users : List (List ℕ)} {total at k : ℕ} (i 
 
 -- ---- one turn of the pass
 
-module _ {t numbers : List ℕ} {users : List (List ℕ)} {total at k : ℕ} (i : Scanned t numbers users total at k) (h : k < total)
+module _ {t numbers : List ℕ} {users : List (List ℕ)} {at k : ℕ} (i : Scanned t numbers users at k) (h : k < linesIn numbers)
     (n a e : ℕ) (j : JudgedIs t at k numbers users (Good n a e)) where
   -- a name fits its row
   name-short : numberLines ≤ k → length (entryIn (rowAt k) (drop at t) .name) ≤ longestName
@@ -359,22 +345,10 @@ module _ {t numbers : List ℕ} {users : List (List ℕ)} {total at k : ℕ} (i 
   unfolding numberLines table JudgedIs
   name-fits l = let m : length (take (e - a) (drop a t)) ≡ length (entryIn (rowAt k) (drop at t) .name) = ap length (j .2 .octets) in omega (arith, name-short l, row-long l)
 
-  -- how many lines there are after it
-  abbrev pub TotalAfter : ℕ → Type 0
-  TotalAfter total′ = ((k + 1 ≡ numberLines) × (total′ ≡ numberLines + n)) ⊎ ((k + 1 ≡ numberLines → ⊥) × (total′ ≡ total))
-
   -- the User IDs after it
   abbrev pub UsersAfter : List (List ℕ) → Type 0
   UsersAfter users′ =
       ((numberLines ≤ k) × (users′ ≡ set users (k - numberLines) (putAt (getD users (k - numberLines) []) 0 (take (e - a) (drop a t))))) ⊎ ((k < numberLines) × (users′ ≡ users))
-
-  total-after : (total′ : ℕ) → TotalAfter total′ → total′ ≡ numberLines + seatsIn (numbersIn (i .before ++ (entryIn (rowAt k) (drop at t) ∷ [])))
-  unfolding numberLines table JudgedIs
-  total-after total′ w =
-      ⊎-elim
-      (λ u. u .1 ∙ ap (λ (x : ℕ). numberLines + x) (j .1) ∙ total-seats i h (u .0))
-      (λ u. u .1 ∙ total-other i h (u .0))
-      w
 
   users-after : (users′ : List (List ℕ)) → UsersAfter users′ → users′ ≡ usersOf (i .before ++ (entryIn (rowAt k) (drop at t) ∷ []))
   unfolding numberLines table JudgedIs
@@ -389,11 +363,11 @@ module _ {t numbers : List ℕ} {users : List (List ℕ)} {total at k : ℕ} (i 
       w
 
   -- what the pass holds after a turn
-  pub scanned-turn : (users′ : List (List ℕ)) (total′ : ℕ) → UsersAfter users′ → TotalAfter total′ → Scanned t (set numbers k n) users′ total′ (e + 1) (k + 1)
+  pub scanned-turn : (users′ : List (List ℕ)) → UsersAfter users′ → Scanned t (set numbers k n) users′ (e + 1) (k + 1)
   unfolding JudgedIs
-  scanned-turn users′ total′ u w =
-      subst (λ (x : ℕ). Scanned t (set numbers k x) users′ total′ (e + 1) (k + 1)) (sym (j .1))
-      (scanned-more i h (j .0) users′ total′ (e + 1) (users-after users′ u) (total-after total′ w) (j .3) (let l = j .2 .within in omega arith))
+  scanned-turn users′ u =
+      subst (λ (x : ℕ). Scanned t (set numbers k x) users′ (e + 1) (k + 1)) (sym (j .1))
+      (scanned-more i h (j .0) users′ (e + 1) (users-after users′ u) (j .3) (let l = j .2 .within in omega arith))
 
 -- ---- what the pass gives
 
@@ -411,22 +385,22 @@ sheetFrom-padded ns h =
     let d : length (drop numberLines (padded room 0 ns)) ≡ length (padded room 0 ns) - numberLines = length-drop numberLines (padded room 0 ns) in
     ap₂ sheetBy (fun-ext (getD-padded room 0 ns)) (padded-full mostSeats 0 (drop numberLines (padded room 0 ns)) (omega arith) ∙ drop-numbers ns h)
 
-module _ {t numbers : List ℕ} {users : List (List ℕ)} {total at k : ℕ} (i : Scanned t numbers users total at k) where
+module _ {t numbers : List ℕ} {users : List (List ℕ)} {at k : ℕ} (i : Scanned t numbers users at k) where
   -- at a bad line the reading is that refusal
-  pub scanned-refused : k < total → goodAt t at k numbers users ≡ false → readOf t ≡ readingOf (refused (k + 1))
+  pub scanned-refused : k < linesIn numbers → goodAt t at k numbers users ≡ false → readOf t ≡ readingOf (refused (k + 1))
   unfolding readOf
   scanned-refused h g = ap readingOf (scanned-bad i h g)
 
   -- behind the last line the reading is the numbers laid out
-  pub scanned-reading : total ≤ k → readOf t ≡ record { sheet = sheetFrom numbers; used = at; refusal = noRefusal }
+  pub scanned-reading : linesIn numbers ≤ k → readOf t ≡ record { sheet = sheetFrom numbers; used = at; refusal = noRefusal }
   unfolding readOf readingOf sheetOf
   scanned-reading h =
       let ns = numbersIn (i .before) in
-      let l : sheetFrom numbers ≡ sheetFrom ns = ap sheetFrom (i .numbers-are) ∙ sheetFrom-padded ns (let m = length-numbersIn (i .before) in omega (arith, i .total-is, i .count)) in
+      let l : sheetFrom numbers ≡ sheetFrom ns = ap sheetFrom (i .numbers-are) ∙ sheetFrom-padded ns (let m = length-numbersIn (i .before) in omega (arith, scanned-lines i, i .count)) in
       ap readingOf (scanned-all i h) ∙ (λ j. record { sheet = sym l j; used = sym (i .place) j; refusal = noRefusal })
 
   -- and the User IDs are those that were put
-  pub scanned-users : total ≤ k → usersIn t ≡ users
+  pub scanned-users : linesIn numbers ≤ k → usersIn t ≡ users
   unfolding usersIn usersFrom
   scanned-users h = ap usersFrom (scanned-all i h) ∙ sym (i .users-are)
 
@@ -440,6 +414,25 @@ users-by (refused k) h = refl
 pub usersIn-refused : (t : List ℕ) → (readOf t .refusal .number ≡ 0 → ⊥) → usersIn t ≡ usersOf []
 unfolding readOf usersIn
 usersIn-refused t h = users-by (outcome t) h
+
+-- those of a sheet that reads stand where others were
+pub users-read : (t : List ℕ) (users : List (List ℕ)) → readOf t .refusal .number ≡ 0 → usersOver t users ≡ usersIn t
+unfolding usersOver
+users-read t users e = pick-true _ _ _ (eq-eqb _ 0 e)
+
+-- beside a refusal the others do
+pub users-refused : (t : List ℕ) (users : List (List ℕ)) → (readOf t .refusal .number ≡ 0 → ⊥) → usersOver t users ≡ users
+unfolding usersOver
+users-refused t users h = pick-false _ _ _ (ne-eqb _ 0 h)
+
+-- so rows of zeros hold the User IDs of any text that was read over them
+pub users-over-none : (t : List ℕ) → usersOver t (usersOf []) ≡ usersIn t
+unfolding usersOver
+users-over-none t =
+    let n = readOf t .refusal .number in
+    pick-cases (λ users. users ≡ usersIn t) (eqb n 0) (usersIn t) (usersOf [])
+    (λ _. refl)
+    (λ e. sym (usersIn-refused t (λ q. false-T (eqb n 0) e (true-T _ (eq-eqb n 0 q)))))
 
 -- eight rows of zeros
 pub no-users : replicate 8 (replicate 60 0) ≡ usersOf []

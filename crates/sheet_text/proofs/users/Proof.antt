@@ -1,23 +1,18 @@
--- `sheet_text::users` meets its contract: the pass puts the User IDs of a sheet that reads, and beside a refusal there are none.
--- Assumes nothing.
-use mathlib.Core.Path.{sym, ap, _∙_}
-use denote.Ref.{now}
-use Rattle.sheet_text.specs.declared.Reading.{Reading}
-use Rattle.sheet_text.proofs.Laws.Scanned.{no-users, usersIn-refused}
+-- `sheet_text::users` meets its contract: what is read over rows of zeros. Assumes nothing.
+use mathlib.Core.Path.{ap, _∙_}
+use borrow.Author.Needs.{needs}
+use Rattle.sheet_text.specs.Reading.{usersOver}
+use Rattle.sheet_text.proofs.Laws.Scanned.{no-users, users-over-none}
 use Rattle.sheet_text.proofs.users.Statement.{statement}
 use Rattle.sheet_text.proofs.users.Tie as tie
 
-scan-requires : tie.Need-scan-requires
-scan-requires c κs = no-users
+read-with-requires : tie.Need-read-with-requires
+read-with-requires c κs = search needs
 
 returns : tie.Need-returns
-returns c = c .before .before .before .scan .ensures .1 (c .if1 .taken)
-
-returns-2 : tie.Need-returns-2
-returns-2 c =
-    let s = c .before .before .before .scan in
-    let t = now (c .before .before .before .before .before .before .args .text) in
-    no-users ∙ sym (usersIn-refused t (λ q. c .if1 .left (ap (λ (r : Reading). r .refusal .number) (s .ensures .0) ∙ q)))
+returns c =
+    let t = c .before .before .before .args .text .now in
+    c .read-with .ensures .1 ∙ ap (usersOver t) no-users ∙ users-over-none t
 
 pub users-spec : {M : Type 1} → statement M
-users-spec = tie.close (tie.spec scan-requires returns returns-2)
+users-spec = tie.close (tie.spec read-with-requires returns)

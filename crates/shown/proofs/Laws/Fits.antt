@@ -21,7 +21,8 @@ use Rattle.packet.specs.Kind.{Kind, kindOf}
 use Rattle.packet.specs.Judge.{filledIn, faultOf, heldBy}
 use Rattle.packet.specs.Reading.{Outcome, refused, check, slotsIn, messageOf, readAs, readBy}
 use Rattle.packet.proofs.Laws.Accepts.{readBy-is, accepts-exactly}
-use Rattle.shown.specs.Line.{mostDigits, lineRight, packetIn, numberLine, textOf, lineAs, lineBy, sheetLine, lineRoom, fitting}
+use Rattle.hex.specs.Line.{mostDigits, lineRight, packetIn}
+use Rattle.shown.specs.Line.{numberLine, textOf, lineAs, lineBy, sheetLine, lineRoom, fitting}
 use Rattle.shown.specs.Claims.{mostText, LineFits}
 use Rattle.shown.proofs.Laws.Widths.{Octets, kind-narrow, reads-fit}
 

@@ -7,7 +7,8 @@ use Rattle.octets.proofs.Choice.{T-true}
 use Rattle.sheet.specs.Value.{validAlone}
 use Rattle.packet.specs.Kind.{numbersOf}
 use Rattle.packet.specs.Reading.{Outcome, readOf, readBy}
-use Rattle.shown.specs.Line.{packetIn, lineAs, lineOf, lineBy}
+use Rattle.hex.specs.Line.{packetIn}
+use Rattle.shown.specs.Line.{lineAs, lineOf, lineBy}
 use Rattle.shown.specs.Claims.{UnderASheet}
 
 -- packets that are read alike are printed alike

@@ -12,8 +12,9 @@ use Rattle.octets.proofs.Buffer.{take-padded}
 use Rattle.fields.specs.Header.{sizeRight}
 use Rattle.packet.specs.declared.Numbers.{Numbers}
 use Rattle.packet.specs.Reading.{readBy}
-use Rattle.shown.specs.declared.hex.Packet.{Packet}
-use Rattle.shown.specs.Line.{packetIn, packetAs, mostOctets, textOf, lineAs, lineBy}
+use Rattle.hex.specs.declared.Packet.{Packet}
+use Rattle.hex.specs.Line.{packetIn, packetAs, mostOctets}
+use Rattle.shown.specs.Line.{textOf, lineAs, lineBy}
 
 -- the octets that the struct holds
 abbrev pub octetsIn : Packet → List ℕ

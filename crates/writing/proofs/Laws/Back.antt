@@ -36,8 +36,8 @@ use Rattle.packet.specs.Reading.{reads, readBy, readOf}
 use Rattle.packet.specs.Claims.{useful, present, AllowsAll, isOne as isOneHeld}
 use Rattle.packet.proofs.Laws.Allowed.{uses}
 use Rattle.packet.proofs.Laws.Accepts.{accepts-exactly}
-use Rattle.plan.specs.Meaning.{Value, nothing, numeral, spelt, nowhere, valueIn, Meaning, meaning}
-use Rattle.plan.specs.Packet.{isName, isNumber, numberHeld, within, holds, isNothing, takes, takesAll, isOne, writable, octetsFor, contentsFor, withHeader, packetAs, packetOf}
+use Rattle.packet.specs.Meaning.{Value, nothing, numeral, spelt, nowhere, valueIn, Meaning, meaning, numberHeld}
+use Rattle.plan.specs.Packet.{isName, isNumber, within, holds, isNothing, takes, takesAll, isOne, writable, octetsFor, contentsFor, withHeader, packetAs, packetOf}
 use Rattle.plan.proofs.Laws.Packets.{Written, packetOf-written}
 use Rattle.writing.specs.Claims.{areOctets}
 use Rattle.writing.proofs.Laws.Kinds.{KindRight, kind-right, kind-found, kindWith-kind}

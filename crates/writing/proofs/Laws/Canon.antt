@@ -32,8 +32,8 @@ use Rattle.packet.specs.Kind.{Row, numbersOf, mayLack, grants}
 use Rattle.packet.specs.Judge.{Held, absent, numberAt, fits, heldIn, fieldsWith}
 use Rattle.packet.specs.Claims.{present, Allows, AllowsAll, isOne}
 use Rattle.packet.proofs.Laws.Allowed.{uses, orderly, orderly-rest, arranged-used, allowed-ind, orderly-lack, first-allowed}
-use Rattle.plan.specs.Meaning.{Value, valueIn, Meaning}
-use Rattle.plan.specs.Packet.{numberHeld, isNothing, octetsFor, contentsFor, header, withHeader, packetOf, packetAs}
+use Rattle.packet.specs.Meaning.{Value, valueIn, Meaning, numberHeld}
+use Rattle.plan.specs.Packet.{isNothing, octetsFor, contentsFor, header, withHeader, packetOf, packetAs}
 use Rattle.writing.specs.Canonical.{inOrder, bare, canonicalIn, canonical}
 use Rattle.writing.specs.Claims.{areOctets, ReadsTo}
 use Rattle.packet.proofs.Laws.Accepts.{kind-orderly}

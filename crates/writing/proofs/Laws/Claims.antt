@@ -13,7 +13,7 @@ use Rattle.sheet.specs.declared.Sheet.{Sheet}
 use Rattle.sheet.specs.Value.{validAlone}
 use Rattle.packet.specs.Kind.{numbersOf}
 use Rattle.packet.specs.Reading.{Outcome, readOf}
-use Rattle.plan.specs.Meaning.{Meaning, meaning}
+use Rattle.packet.specs.Meaning.{Meaning, meaning}
 use Rattle.plan.specs.Packet.{packetAs, packetOf, packetFor}
 use Rattle.writing.specs.Writing.{Made, made, refused, roomFor, writeOf}
 use Rattle.writing.specs.Canonical.{canonical}
@@ -25,26 +25,26 @@ use Rattle.writing.proofs.Laws.Canon.{written-canonical, canonical-is}
 -- ---- what writing comes to
 
 -- a refusal is no packet
-refused-made : (number at : ℕ) (p : List ℕ) → refused number at ≡ made p → ⊥
-refused-made number at p e = Option·none-ne-some p (ap packetIn e)
+refused-made : (number : ℕ) (p : List ℕ) → refused number ≡ made p → ⊥
+refused-made number p e = Option·none-ne-some p (ap packetIn e)
   where
     packetIn : Made → Option (List ℕ)
     packetIn (made q) = some q
-    packetIn (refused n a) = none
+    packetIn (refused number) = none
 
 -- what goes into the room
 roomFor-made : (room : ℕ) (o : Option (List ℕ)) (p : List ℕ) → roomFor room o ≡ made p → o ≡ some p
 unfolding roomFor
-roomFor-made room none p e = absurd (refused-made 5 0 p e)
+roomFor-made room none p e = absurd (refused-made 5 p e)
 roomFor-made room (some q) p e =
-    pick-cases (λ (w : Made). w ≡ made p → some q ≡ some p) (leb (length q) room) (made q) (refused 11 0) (λ t x. cc) (λ f x. cc) e
+    pick-cases (λ (w : Made). w ≡ made p → some q ≡ some p) (leb (length q) room) (made q) (refused 11) (λ t x. cc) (λ f x. cc) e
 
 -- 5 is for no packet alone
-roomFor-five : (room : ℕ) (o : Option (List ℕ)) → roomFor room o ≡ refused 5 0 → o ≡ none
+roomFor-five : (room : ℕ) (o : Option (List ℕ)) → roomFor room o ≡ refused 5 → o ≡ none
 unfolding roomFor
 roomFor-five room none e = refl
 roomFor-five room (some q) e =
-    pick-cases (λ (w : Made). w ≡ refused 5 0 → some q ≡ none) (leb (length q) room) (made q) (refused 11 0) (λ t x. cc) (λ f x. cc) e
+    pick-cases (λ (w : Made). w ≡ refused 5 → some q ≡ none) (leb (length q) room) (made q) (refused 11) (λ t x. cc) (λ f x. cc) e
 
 -- where something was written, the sheet is valid, and it is the packet of the message's meaning
 record Wrote (s : Sheet) (o : Option Meaning) (p : List ℕ) : Type 0 where
@@ -56,9 +56,9 @@ record Wrote (s : Sheet) (o : Option Meaning) (p : List ℕ) : Type 0 where
 wrote : (s : Sheet) (message : Outcome) (names : List ℕ) (room : ℕ) (p : List ℕ) → writeOf s message names room ≡ made p → Wrote s (meaning names message) p
 unfolding writeOf packetFor
 wrote s message names room p e =
-    pick-cases (λ (w : Made). w ≡ made p → Wrote s (meaning names message) p) (validAlone s) (roomFor room (packetFor s (meaning names message))) (refused 12 0)
+    pick-cases (λ (w : Made). w ≡ made p → Wrote s (meaning names message) p) (validAlone s) (roomFor room (packetFor s (meaning names message))) (refused 12)
     (λ v x. by-meaning v (meaning names message) (roomFor-made room (packetFor s (meaning names message)) p x))
-    (λ f x. absurd (refused-made 12 0 p x))
+    (λ f x. absurd (refused-made 12 p x))
     e
   where
     by-meaning : T (validAlone s) → (o : Option Meaning) → packetFor s o ≡ some p → Wrote s o p
@@ -111,7 +111,7 @@ five-exactly s v message names room m e = (
   λ never. write-is s v message names room m e ∙ by-packet never (packetOf (numbersOf s) m) refl,
 )
   where
-    by-packet : ((p : List ℕ) → ReadsTo s p m → ⊥) → (o : Option (List ℕ)) → packetOf (numbersOf s) m ≡ o → roomFor room o ≡ refused 5 0
+    by-packet : ((p : List ℕ) → ReadsTo s p m → ⊥) → (o : Option (List ℕ)) → packetOf (numbersOf s) m ≡ o → roomFor room o ≡ refused 5
     by-packet never none q = unfold roomFor in refl
     by-packet never (some p) q = absurd (never p (packet-reads s v m p q))
 

@@ -26,7 +26,7 @@ use Rattle.packet.specs.Reading.{Outcome, reads, check, slotsIn, messageOf, rea
 use Rattle.packet.specs.Claims.{nameRight, useful, Arranged, present, Allows, AllowsAll, isOne}
 use Rattle.packet.proofs.Laws.Accepts.{readBy-is, accepts-exactly}
 use Rattle.packet.proofs.Laws.NamesInside.{names-right}
-use Rattle.plan.specs.Meaning.{valueIn, Meaning, meaning}
+use Rattle.packet.specs.Meaning.{valueIn, Meaning, meaning}
 use Rattle.plan.specs.Packet.{within, holds, isNothing, takes, takesAll, isOne as isOneMeant, packetOf, writable, packetAs}
 use Rattle.writing.specs.Claims.{areOctets, ReadsTo}
 use Rattle.writing.proofs.Laws.Kinds.{kind-with}

@@ -9,7 +9,7 @@ use Rattle.octets.proofs.Choice.{pick-cases}
 use Rattle.packet.specs.Kind.{Row, grants}
 use Rattle.packet.specs.Judge.{Held, absent, given, named}
 use Rattle.packet.specs.Claims.{isOne}
-use Rattle.plan.specs.Meaning.{Value, spelt, nowhere, valueIn}
+use Rattle.packet.specs.Meaning.{Value, spelt, nowhere, valueIn}
 use Rattle.plan.specs.Packet.{isOne as isOneMeant}
 
 -- a map that keeps the test keeps whether the Result is 1

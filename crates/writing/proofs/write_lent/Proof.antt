@@ -13,13 +13,10 @@ use Rattle.writing.proofs.write_lent.Tie as tie
 are-valid-requires : tie.Need-are-valid-requires
 are-valid-requires c κs = search needs
 
-refused-requires : tie.Need-refused-requires
-refused-requires c κs = search needs
-
 returns : tie.Need-returns
 unfolding writeOf told after
 returns c =
-    rw (sym (c .before .before .are-valid .ensures) ∙ not-true _ (c .before .if1 .taken)) (c .refused .ensures, refl)
+    rw (sym (c .before .are-valid .ensures) ∙ not-true _ (c .if1 .taken)) (refl, refl)
 
 write-by-requires : tie.Need-write-by-requires
 write-by-requires c κs = search needs
@@ -32,7 +29,7 @@ unfolding writeOf writeBy
 returns-2 c =
     let put = c .before .before in
     let else1 = put .before .before in
-    let ns = else1 .before .before .before .before .before .args .numbers .now in
+    let ns = else1 .before .before .before .before .before .before .args .numbers .now in
     let valid = sym (else1 .before .are-valid .ensures) ∙ not-false _ (else1 .if1 .left) in
     let t = true-T _ valid in
     rw (valid, sheetIn-counted ns (valid-counted ns t)) (rw (T-true (fitting ns) (valid-fitting ns t)) at (put .write-by .ensures))
@@ -40,4 +37,4 @@ returns-2 c =
 pub write-lent-spec : {M : Type 1} → statement M
 write-lent-spec =
     tie.close
-    (tie.spec are-valid-requires refused-requires returns write-by-requires same-length returns-2)
+    (tie.spec are-valid-requires returns write-by-requires same-length returns-2)

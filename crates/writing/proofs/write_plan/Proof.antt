@@ -43,7 +43,7 @@ module _ (names : List ℕ) (plan : Plan) where
     length-packet = rw (length-append, length-head, plan-length names plan t)
 
     -- less room than that
-    no-room : (room : ℕ) → room < 12 + planSize plan → roomFor room (some (planPacket names plan)) ≡ refused 11 0
+    no-room : (room : ℕ) → room < 12 + planSize plan → roomFor room (some (planPacket names plan)) ≡ refused 11
     unfolding planPacket withHeader roomFor
     no-room room h = rw (lt-leb (length packet) room (omega (arith, length-packet)))
 
@@ -64,16 +64,12 @@ size-of-requires c κs = search needs
 add-size : tie.Need-add-size
 add-size c = let most = plan-most (now (c .before .before .before .args .names)) (c .before .before .before .args .plan) (right c) in omega (arith, c .size-of .ensures)
 
-refused-requires : tie.Need-refused-requires
-refused-requires c κs = search needs
-
 returns : tie.Need-returns
 unfolding told after
 returns c =
-    let sized = c .before .before in
+    let sized = c .before in
     let a = sized .before .before .before .args in
-    rw (no-room (now (a .names)) (a .plan) (right sized) (length (now (a .out))) (omega (arith, sized .size-of .ensures)))
-    (c .refused .ensures, refl)
+    rw (no-room (now (a .names)) (a .plan) (right sized) (length (now (a .out))) (omega (arith, sized .size-of .ensures))) (refl, refl)
 
 put-header-requires : tie.Need-put-header-requires
 put-header-requires c κs =
@@ -95,6 +91,12 @@ put-fields-requires : tie.Need-put-fields-requires
 put-fields-requires c κs =
     let sized = c .before .before .before .before .before .before in
     (right sized, simp (length-take, length-drop) (omega arith))
+
+cast-t13 : tie.Need-cast-t13
+cast-t13 c =
+    let sized = c .before .before .before .before .before .before .before .before .before in
+    let most = plan-most (now (sized .before .before .before .args .names)) (sized .before .before .before .args .plan) (right sized) in
+    omega (arith, sized .size-of .ensures)
 
 same-length : tie.Need-same-length
 same-length c = search needs
@@ -121,12 +123,12 @@ write-plan-spec =
     (tie.spec
     size-of-requires
     add-size
-    refused-requires
     returns
     put-header-requires
     sub-put-fields
     part-put-fields-start
     part-put-fields-end
     put-fields-requires
+    cast-t13
     same-length
     returns-2)

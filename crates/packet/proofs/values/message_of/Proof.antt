@@ -1,32 +1,25 @@
 -- `packet::values::message_of` meets its contract: each arm is its kind's entry of `valuesFrom`, read where four octets stand.
 -- Assumes nothing.
-use Prim.Native.Nat.{ℕ, _+_, _≤_, _<_}
+use Prim.Native.Nat.{_+_, _≤_}
 use borrow.Author.Needs.{needs}
 use native.Mathlib.Omega.{arith}
 use lib.ListN.{length, getD}
-use lib.Dec.{leb, leb→le, lit<}
-use Rattle.octets.proofs.Choice.{every-getD}
-use Rattle.packet.specs.Inner.{PlacesInside, valuesFrom, numberFrom}
+use Rattle.packet.specs.Inner.{valuesFrom, numberFrom}
 use Rattle.packet.proofs.Laws.Kinds.{seventh}
+use Rattle.packet.proofs.Laws.Places.{place-inside}
 use Rattle.packet.proofs.values.message_of.Statement.{statement}
 use Rattle.packet.proofs.values.message_of.Tie as tie
 
--- four octets stand at a place
-inside-at : (c : tie.Start) (i : ℕ) → i < 3 → getD (c .args .t4) i 0 + 4 ≤ length (c .args .packet .now)
-unfolding PlacesInside
-inside-at c i h =
-    let p = c .args .packet .now in
-    leb→le (getD (c .args .t4) i 0 + 4) (length p)
-    (every-getD (λ (a : ℕ). leb (a + 4) (length p)) (c .args .t4) i 0 (c .pre .3) (omega arith))
-
--- at each of the three
+-- four octets stand at each of the three places
 record Inside (c : tie.Start) : Type 0 where
   first : getD (c .args .t4) 0 0 + 4 ≤ length (c .args .packet .now)
   second : getD (c .args .t4) 1 0 + 4 ≤ length (c .args .packet .now)
   third : getD (c .args .t4) 2 0 + 4 ≤ length (c .args .packet .now)
 
 inside : (c : tie.Start) → Inside c
-inside c = record { first = inside-at c 0 (lit< tt); second = inside-at c 1 (lit< tt); third = inside-at c 2 (lit< tt) }
+inside c =
+    let at = place-inside (c .args .packet .now) (c .args .t4) in
+    record { first = at 0 (c .pre .3) (omega arith); second = at 1 (c .pre .3) (omega arith); third = at 2 (c .pre .3) (omega arith) }
 
 array-read-first : tie.Need-array-read-first
 array-read-first c = search needs

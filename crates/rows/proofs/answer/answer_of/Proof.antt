@@ -30,7 +30,7 @@ lent c =
 
 -- the row that was made is their likely answer's
 own : (c : tie.After-row-of) → c .row-of .result ≡ answerRow (likelyIn (lent c))
-own c = c .row-of .ensures ∙ ap answerRow (c .before .likely .ensures)
+own c = c .row-of .ensures .0 ∙ ap answerRow (c .before .likely .ensures)
 
 -- where a number of it is another, no answer has these
 differs : (c : tie.After-row-of) (k : ℕ) → (getD (c .row-of .result) k 0 ≡ getD (lent c) k 0 → ⊥) → none ≡ answerIn (lent c)
@@ -81,7 +81,7 @@ returns-7 c =
     let else2 = else3 .before in
     let else1 = else2 .before in
     let made = else1 .before in
-    let long = ap length (made .row-of .ensures) ∙ answer-length (made .before .likely .result) in
+    let long = ap length (made .row-of .ensures .0) ∙ answer-length (made .before .likely .result) in
     let first = six (made .row-of .result) _ _ _ _ _ _ long (else1 .if1 .left) (else2 .if2 .left) (else3 .if3 .left) in
     held made (first (else4 .if4 .left) (else5 .if5 .left) (c .if6 .left))
 

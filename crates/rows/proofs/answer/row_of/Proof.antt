@@ -1,5 +1,7 @@
 -- `rows::answer::row_of` meets its contract: answer by answer. Assumes nothing.
+use Rattle.streams.specs.declared.Answer.the-variants.{GrantedFirst, Granted, GrantedAgain, Rejected, Ended, EndedLast, Opened, EndRequested, Freed, FreedWithAck, ReleasedIdle, ReleasedWatched, ReleasedEnding, Discarded}
 use Rattle.rows.specs.Rows.{timersSum}
+use Rattle.rows.proofs.Laws.Answers.{own-row}
 use borrow.Author.Needs.{needs}
 use Rattle.rows.proofs.answer.row_of.Statement.{statement}
 use Rattle.rows.proofs.answer.row_of.Tie as tie
@@ -57,59 +59,59 @@ enum-told-12 c = search needs
 
 returns : tie.Need-returns
 unfolding timersSum
-returns c = rw (c .enum-told .given .1)
+returns c = rw (c .enum-told .given .1) (own-row GrantedFirst tt)
 
 returns-2 : tie.Need-returns-2
 unfolding timersSum
-returns-2 c = rw (c .enum-told2 .given .1)
+returns-2 c = rw (c .enum-told2 .given .1) (own-row Granted tt)
 
 returns-3 : tie.Need-returns-3
 unfolding timersSum
-returns-3 c = rw (c .enum-told3 .given .1)
+returns-3 c = rw (c .enum-told3 .given .1) (own-row GrantedAgain tt)
 
 returns-4 : tie.Need-returns-4
 unfolding timersSum
-returns-4 c = rw (c .before .answer .given .1)
+returns-4 c = rw (c .before .answer .given .1) (own-row (Rejected _) (search needs))
 
 returns-5 : tie.Need-returns-5
 unfolding timersSum
-returns-5 c = rw (c .enum-told4 .given .1)
+returns-5 c = rw (c .enum-told4 .given .1) (own-row Ended tt)
 
 returns-6 : tie.Need-returns-6
 unfolding timersSum
-returns-6 c = rw (c .enum-told5 .given .1)
+returns-6 c = rw (c .enum-told5 .given .1) (own-row EndedLast tt)
 
 returns-7 : tie.Need-returns-7
 unfolding timersSum
-returns-7 c = rw (c .enum-told6 .given .1)
+returns-7 c = rw (c .enum-told6 .given .1) (own-row Opened tt)
 
 returns-8 : tie.Need-returns-8
 unfolding timersSum
-returns-8 c = rw (c .before .answer2 .given .1)
+returns-8 c = rw (c .before .answer2 .given .1) (own-row (EndRequested _) (search needs))
 
 returns-9 : tie.Need-returns-9
 unfolding timersSum
-returns-9 c = rw (c .enum-told7 .given .1)
+returns-9 c = rw (c .enum-told7 .given .1) (own-row Freed tt)
 
 returns-10 : tie.Need-returns-10
 unfolding timersSum
-returns-10 c = rw (c .enum-told8 .given .1)
+returns-10 c = rw (c .enum-told8 .given .1) (own-row FreedWithAck tt)
 
 returns-11 : tie.Need-returns-11
 unfolding timersSum
-returns-11 c = rw (c .enum-told9 .given .1)
+returns-11 c = rw (c .enum-told9 .given .1) (own-row ReleasedIdle tt)
 
 returns-12 : tie.Need-returns-12
 unfolding timersSum
-returns-12 c = rw (c .enum-told10 .given .1)
+returns-12 c = rw (c .enum-told10 .given .1) (own-row ReleasedWatched tt)
 
 returns-13 : tie.Need-returns-13
 unfolding timersSum
-returns-13 c = rw (c .enum-told11 .given .1)
+returns-13 c = rw (c .enum-told11 .given .1) (own-row ReleasedEnding tt)
 
 returns-14 : tie.Need-returns-14
 unfolding timersSum
-returns-14 c = rw (c .enum-told12 .given .1)
+returns-14 c = rw (c .enum-told12 .given .1) (own-row Discarded tt)
 
 pub row-of-spec : {M : Type 1} → statement M
 row-of-spec =

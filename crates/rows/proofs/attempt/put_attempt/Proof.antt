@@ -68,7 +68,7 @@ returns c =
     let answer = seen .before .before in
     let start = answer .before .before .before .before in
     subst (λ (l : List ℕ). Rowed (gives l) (start .args .out .now) (put .put .result) (put .put .last .0))
-    (try-row (start .args .attempt) _ _ _ (seen .number-of .ensures) (wanted .number-of2 .ensures) (answer .row-of .ensures))
+    (try-row (start .args .attempt) _ _ _ (seen .number-of .ensures) (wanted .number-of2 .ensures) (answer .row-of .ensures .0))
     (put .put .ensures)
 
 pub put-attempt-spec : {M : Type 1} → statement M

@@ -2,7 +2,8 @@
 use mathlib.Core.Path.{_≡_, refl}
 use mathlib.Core.Bool.{Bool, true, false}
 use mir.Val.{boolByte}
-use Rattle.rows.specs.Rows.{flag, whatRow}
+use Rattle.packet.specs.Row.{flag}
+use Rattle.rows.specs.Rows.{whatRow}
 use borrow.Author.Needs.{needs}
 use Rattle.rows.proofs.event.row_of.Statement.{statement}
 use Rattle.rows.proofs.event.row_of.Tie as tie

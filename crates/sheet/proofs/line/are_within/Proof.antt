@@ -1,14 +1,14 @@
--- `sheet::line::are_within` meets its contract. The invariant: each line before k is within its bounds.
+-- `sheet::line::are_within` meets its contract. The invariant: what was joined says whether each line before k is within its bounds.
 -- Assumes nothing.
-use mathlib.Core.Path.{_≡_, sym, _∙_}
+use mathlib.Core.Path.{_≡_, _∙_}
+use mathlib.Core.Logic.{_↔_}
 use Prim.Native.Nat.{ℕ, _-_, _≤_, _<_}
 use borrow.Author.Count.{below-none, below-more}
 use borrow.Author.Needs.{needs}
-use borrow.Author.Tests.{not-true, not-false}
 use native.Mathlib.Omega.{arith}
 use lib.ListN.{getD}
 use lib.Dec.{T}
-use Rattle.octets.proofs.Choice.{true-T, false-T}
+use Rattle.octets.proofs.Choice.{T-and, T-and-left, T-and-right}
 use Rattle.sheet.specs.Table.{table, numberLines}
 use Rattle.sheet.specs.Inner.{within}
 use Rattle.sheet.proofs.Laws.Rules.{rule-between}
@@ -16,10 +16,10 @@ use Rattle.sheet.proofs.line.are_within.Statement.{statement}
 use Rattle.sheet.proofs.line.are_within.Tie as tie
 
 abbrev Inv-loop : tie.InvT-loop
-Inv-loop numbers k₀ k = (k ≤ numberLines) × ((i : ℕ) → i < k → T (within i (getD numbers i 0)))
+Inv-loop numbers good₀ k₀ good k = (k ≤ numberLines) × (T good ↔ ((i : ℕ) → i < k → T (within i (getD numbers i 0))))
 
 abbrev μ-loop : tie.MeasureT-loop
-μ-loop numbers k₀ k = numberLines - k
+μ-loop numbers good₀ k₀ good k = numberLines - k
 
 -- the answer on line k is that of the definition's row
 judged : (c : tie.After-is-within Inv-loop μ-loop)
@@ -30,7 +30,7 @@ judged c = c .is-within .ensures ∙ rule-between (c .before .before .rule-of .e
 
 loop-holds : tie.Need-loop-holds Inv-loop μ-loop
 unfolding numberLines table
-loop-holds c = (search needs, below-none _)
+loop-holds c = (search needs, ((λ t. below-none _), λ all. tt))
 
 rule-of-requires : tie.Need-rule-of-requires Inv-loop μ-loop
 rule-of-requires c κs = search needs
@@ -48,12 +48,6 @@ cast-is-within c = omega (arith, c .shared-slice-known2 .given (c .before .befor
 is-within-requires : tie.Need-is-within-requires Inv-loop μ-loop
 is-within-requires c κs = search needs
 
-returns : tie.Need-returns Inv-loop μ-loop
-unfolding numberLines table
-returns c =
-    let after = c .before in
-    ((λ t. absurd t), λ good. false-T _ (sym (judged after) ∙ not-true _ (c .if1 .taken)) (good _ (after .before .before .before .loop-test .taken)))
-
 add-k : tie.Need-add-k Inv-loop μ-loop
 unfolding numberLines table
 add-k c = omega arith
@@ -65,12 +59,24 @@ loop-less c = omega arith
 loop-again : tie.Need-loop-again Inv-loop μ-loop
 unfolding numberLines table
 loop-again c =
-    let at-loop = c .before .before .before .before .before in
-    (omega arith, below-more _ _ (at-loop .loop .inv .1) (true-T _ (sym (judged (c .before)) ∙ not-false _ (c .if1 .left))))
+    let at-loop = c .before .before .before .before in
+    let k = at-loop .loop .k in
+    let good = at-loop .loop .good in
+    let here = within k (getD (at-loop .before .before .args .numbers .now) k 0) in
+    let so-far = at-loop .loop .inv .1 in
+    rw (judged c) (
+      omega arith,
+      (
+        (λ t. below-more _ k (so-far .0 (T-and-left good here t)) (T-and-right good here t)),
+        λ all. T-and good here (so-far .1 (λ i h. all i (omega arith))) (all k (omega arith)),
+      ),
+    )
 
-returns-2 : tie.Need-returns-2 Inv-loop μ-loop
+returns : tie.Need-returns Inv-loop μ-loop
 unfolding numberLines table
-returns-2 c = ((λ t i h. c .before .loop .inv .1 i (omega arith)), λ good. tt)
+returns c =
+    let inv = c .before .loop .inv in
+    ((λ t i h. inv .1 .0 t i (omega arith)), λ all. inv .1 .1 (λ i h. all i (omega arith)))
 
 pub are-within-spec : {M : Type 1} → statement M
 are-within-spec =
@@ -84,8 +90,7 @@ are-within-spec =
     shared-slice-read-is-within
     cast-is-within
     is-within-requires
-    returns
     add-k
     loop-less
     loop-again
-    returns-2)
+    returns)

@@ -28,10 +28,10 @@ abbrev μ-loop : tie.MeasureT-loop
 
 -- the octet at the loop's place, where it was found to be a digit
 abbrev octet : tie.Else1 Inv-loop μ-loop → ℕ
-octet c = getD (now (c .before .before .before .before .before .before .args .text)) (c .before .before .before .before .loop .i) 0
+octet c = getD (now (c .before .before .before .before .args .text)) (c .before .before .before .loop .i) 0
 
 octet-digit : (c : tie.Else1 Inv-loop μ-loop) → T (digit (octet c))
-octet-digit c = true-T (digit (octet c)) (sym (c .before .is-digit .ensures) ∙ not-false _ (c .if1 .left))
+octet-digit c = true-T (digit (octet c)) (not-false _ (c .if1 .left))
 
 loop-holds : tie.Need-loop-holds Inv-loop μ-loop
 loop-holds c = (refl, 0, omega arith, refl)
@@ -39,16 +39,12 @@ loop-holds c = (refl, 0, omega arith, refl)
 shared-slice-read-c : tie.Need-shared-slice-read-c Inv-loop μ-loop
 shared-slice-read-c c = omega arith
 
-is-digit-requires : tie.Need-is-digit-requires Inv-loop μ-loop
-is-digit-requires c κs = tt
-
 returns : tie.Need-returns Inv-loop μ-loop
 returns c =
-    let text = now (c .before .before .before .before .before .before .args .text) in
-    let i = c .before .before .before .before .loop .i in
-    let inv = c .before .before .before .before .loop .inv in
-    let e = sym (c .before .is-digit .ensures) ∙ not-true _ (c .if1 .taken) in
-    let none = front-drop-false digit text i (omega arith) e in
+    let text = now (c .before .before .before .before .args .text) in
+    let i = c .before .before .before .loop .i in
+    let inv = c .before .before .before .loop .inv in
+    let none = front-drop-false digit text i (omega arith) (not-true _ (c .if1 .taken)) in
     (omega (arith, ap length none), omega (arith, sym (ap (valueFrom (inv .1)) none) ∙ inv .3))
 
 mul-next : tie.Need-mul-next Inv-loop μ-loop
@@ -71,9 +67,9 @@ loop-less c = omega arith
 
 loop-again : tie.Need-loop-again Inv-loop μ-loop
 loop-again c =
-    let text = now (c .before .before .before .before .before .before .before .args .text) in
-    let i = c .before .before .before .before .before .loop .i in
-    let inv = c .before .before .before .before .before .loop .inv in
+    let text = now (c .before .before .before .before .before .args .text) in
+    let i = c .before .before .before .before .loop .i in
+    let inv = c .before .before .before .before .loop .inv in
     let found = octet-digit (c .before) in
     let v = inv .1 * 10 + (octet (c .before) - 48) in
     let one = front-drop-true digit text i (omega arith) (T-true (digit (octet (c .before))) found) in
@@ -82,7 +78,7 @@ loop-again c =
 
 returns-2 : tie.Need-returns-2 Inv-loop μ-loop
 returns-2 c =
-    let text = now (c .before .before .before .args .text) in
+    let text = now (c .before .before .args .text) in
     let inv = c .before .loop .inv in
     let none = front-drop-end digit text (c .before .loop .i) (omega arith) in
     (omega (arith, ap length none), omega (arith, sym (ap (valueFrom (inv .1)) none) ∙ inv .3))
@@ -95,7 +91,6 @@ digits-spec =
     μ-loop
     loop-holds
     shared-slice-read-c
-    is-digit-requires
     returns
     mul-next
     sub-next

@@ -13,7 +13,7 @@ part-stands-at-start c = search needs
 
 part-stands-at-end : tie.Need-part-stands-at-end
 unfolding keys
-part-stands-at-end c = c .before .before .pre .1
+part-stands-at-end c = c .before .before .pre .2
 
 stands-at-requires : tie.Need-stands-at-requires
 stands-at-requires c κs = search needs

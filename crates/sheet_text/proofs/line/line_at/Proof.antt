@@ -73,7 +73,7 @@ key-of-requires : tie.Need-key-of-requires
 key-of-requires c κs = search needs
 
 has-key-requires : tie.Need-has-key-requires
-has-key-requires c κs = (c .key-of .ensures .ordered, c .key-of .ensures .within)
+has-key-requires c κs = (c .before .before .pre, c .key-of .ensures .ordered, c .key-of .ensures .within)
 
 returns : tie.Need-returns
 returns c =

@@ -7,7 +7,7 @@ use lib.ListN.{length}
 use borrow.Author.Tests.{le-leb, lt-leb}
 use Rattle.octets.proofs.Buffer.{over-putAt}
 use Rattle.packet.specs.Message.{readSaid}
-use Rattle.writing.specs.Writing.{wrote, roomFor, told, after}
+use Rattle.shown.specs.declared.Printing.the-variants.{Printed}
 use Rattle.shown.specs.Line.{textOf}
 use borrow.Author.Needs.{needs}
 use Rattle.shown.proofs.print.reading.Statement.{statement}
@@ -17,7 +17,6 @@ length-of-requires : tie.Need-length-of-requires
 length-of-requires c κs = search needs
 
 returns : tie.Need-returns
-unfolding roomFor told after
 returns c =
     let start = c .before .before .before .before in
     let text = textOf (start .args .packet .now) (readSaid (start .args .reading)) in
@@ -31,14 +30,13 @@ same-length : tie.Need-same-length
 same-length c = search needs
 
 returns-2 : tie.Need-returns-2
-unfolding roomFor told after
 returns-2 c =
     let start = c .before .before .before .before .before .before .before .before in
     let out = start .args .out .now in
     let text = textOf (start .args .packet .now) (readSaid (start .args .reading)) in
     let put = c .before .before .put .ensures in
     let room : length text ≤ length out = omega arith in
-    rw (le-leb (length text) (length out) room) (ap wrote (put .1 ∙ zero-add (length text)), put .0 ∙ sym (over-putAt text out room))
+    rw (le-leb (length text) (length out) room) (ap Printed (put .1 ∙ zero-add (length text)), put .0 ∙ sym (over-putAt text out room))
 
 pub reading-spec : {M : Type 1} → statement M
 reading-spec = tie.close (tie.spec length-of-requires returns put-requires same-length returns-2)

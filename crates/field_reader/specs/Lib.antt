@@ -1,0 +1,4 @@
+pub mod Reader
+pub mod Inner
+pub mod Promises
+pub mod Claims
