@@ -10,8 +10,8 @@ use Rattle.sheet.specs.Value.{sheetIn, validAlone}
 use Rattle.sheet_text.specs.declared.Reading.{Reading}
 use Rattle.sheet_text.specs.Reading.{readOf as sheetRead}
 use Rattle.fields.specs.Walk.{Stepped, field, end, refused as stepRefused, stepOf}
-use Rattle.packet.specs.Reading.{Outcome, reads, refused}
-use Rattle.packet.specs.Reading.{readOf as packetRead}
+use Rattle.kinds.specs.Reading.{Outcome, reads, refused}
+use Rattle.kinds.specs.Reading.{readOf as packetRead}
 use Rattle.packet.specs.Row.{messageRow, messageIn}
 use Rattle.writing.specs.Writing.{Made, made, refused as notMade, writeOf}
 use Rattle.streams.specs.declared.Record.{Record}

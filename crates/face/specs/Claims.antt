@@ -11,7 +11,7 @@ use Rattle.sheet.specs.declared.Sheet.{Sheet}
 use Rattle.sheet.specs.Value.{sheetIn, validWith}
 use Rattle.sheet_text.specs.declared.Reading.{Reading}
 use Rattle.sheet_text.specs.Reading.{usersIn}
-use Rattle.packet.specs.Reading.{Outcome}
+use Rattle.kinds.specs.Reading.{Outcome}
 use Rattle.packet.specs.Meaning.{meaning}
 use Rattle.packet.specs.Row.{messageRow, messageIn}
 use Rattle.plan.specs.Packet.{packetFor}

@@ -8,7 +8,7 @@ use mathlib.Core.Option.{some}
 use lib.Dec.{T}
 use Rattle.sheet.specs.declared.Sheet.{Sheet}
 use Rattle.sheet.specs.Value.{validWith}
-use Rattle.packet.specs.Reading.{refused, readOf}
+use Rattle.kinds.specs.Reading.{refused, readOf}
 use Rattle.packet.specs.Meaning.{Meaning, meaning}
 use Rattle.streams.specs.declared.Event.{Event}
 use Rattle.streams.specs.declared.What.{What}

@@ -11,7 +11,7 @@ use Rattle.sheet.specs.declared.Sheet.{Sheet}
 use Rattle.sheet.specs.declared.Senders.{Senders}
 use Rattle.sheet.specs.Value.{validWith}
 use Rattle.sheet.specs.Find.{userOf, seatOfSsrc, seatOfUser}
-use Rattle.packet.specs.Reading.{Outcome, reads, refused, readOf}
+use Rattle.kinds.specs.Reading.{Outcome, reads, refused, readOf}
 use Rattle.packet.specs.Meaning.{Value, nothing, Meaning, valueIn, nameHeld}
 use Rattle.streams.specs.declared.Event.{Event}
 use Rattle.streams.specs.declared.What.{What}

@@ -7,7 +7,7 @@ use lib.Dec.{T}
 use Rattle.octets.specs.Choice.{every}
 use Rattle.packet.specs.declared.Name.{Name}
 use Rattle.packet.specs.Claims.{nameRight}
-use Rattle.packet.specs.Reading.{Outcome, reads, refused}
+use Rattle.kinds.specs.Reading.{Outcome, reads, refused}
 
 -- the octets of a name
 abbrev pub octetsAt : List ℕ → Name → List ℕ

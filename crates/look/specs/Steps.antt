@@ -10,8 +10,8 @@ use Rattle.octets.specs.Choice.{pick}
 use Rattle.octets.specs.Buffer.{over, padded}
 use Rattle.sheet_text.specs.Line.{lf}
 use Rattle.sheet_text.specs.Reading.{noRefusal, readOf}
-use Rattle.packet.specs.declared.Numbers.{Numbers}
-use Rattle.packet.specs.Kind.{numbersOf}
+use Rattle.kinds.specs.declared.Numbers.{Numbers}
+use Rattle.kinds.specs.Kind.{numbersOf}
 use Rattle.shown.specs.Printing.{noRoom}
 use Rattle.hex.specs.Line.{mostDigits}
 use Rattle.shown.specs.Line.{lineBy, sheetLine}

@@ -8,8 +8,8 @@ use lib.ListN.{length}
 use lib.Dec.{T}
 use Rattle.sheet.specs.declared.Sheet.{Sheet}
 use Rattle.sheet.specs.Value.{validWith}
-use Rattle.packet.specs.Kind.{numbersOf}
-use Rattle.packet.specs.Reading.{readOf}
+use Rattle.kinds.specs.Kind.{numbersOf}
+use Rattle.kinds.specs.Reading.{readOf}
 use Rattle.packet.specs.Meaning.{Value, nothing, numeral, spelt, Meaning, meaning}
 use Rattle.writing.specs.Canonical.{canonical}
 use Rattle.writing.specs.Claims.{areOctets}

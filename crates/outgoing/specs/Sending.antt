@@ -9,7 +9,7 @@ use Rattle.octets.specs.Choice.{pick}
 use Rattle.sheet.specs.declared.Sheet.{Sheet}
 use Rattle.sheet.specs.Value.{validWith}
 use Rattle.sheet.specs.Find.{userOf}
-use Rattle.packet.specs.Kind.{numbersOf}
+use Rattle.kinds.specs.Kind.{numbersOf}
 use Rattle.packet.specs.Meaning.{Value, nothing, numeral, spelt, Meaning}
 use Rattle.plan.specs.Packet.{packetOf}
 use Rattle.writing.specs.Writing.{Made, made, refused, roomFor}

@@ -1,14 +1,4 @@
-pub mod Kinds
-pub mod Judging
-pub mod Sound
 pub mod Allowed
-pub mod Reading
 pub mod Accepts
 pub mod NamesInside
-pub mod Unused
-pub mod Values
-pub mod Slots
-pub mod Places
-pub mod Judged
-pub mod Found
 pub mod Rows

@@ -16,8 +16,8 @@ use Rattle.packet.specs.declared.Reading.{Reading}
 use Rattle.packet.specs.declared.Reading.the-variants.{Read, Refused}
 use Rattle.packet.specs.declared.Asked.{Asked}
 use Rattle.packet.specs.declared.Asked.the-variants.{Request, End, EndResponse, Nothing, Refused as AskedRefused}
-use Rattle.packet.specs.Judge.{Held, absent, given, named}
-use Rattle.packet.specs.Reading.{Outcome, reads, refused}
+use Rattle.kinds.specs.Judge.{Held, absent, given, named}
+use Rattle.kinds.specs.Reading.{Outcome, reads, refused}
 use Rattle.packet.specs.Message.{messageSaid, readSaid}
 use Rattle.packet.specs.Asked.{Asks, request, end, endResponse, nothing, refusal, askedSaid}
 

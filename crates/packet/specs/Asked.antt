@@ -7,8 +7,8 @@ use lib.Dec.{eqb}
 use Rattle.octets.specs.Choice.{pick}
 use Rattle.packet.specs.declared.Asked.{Asked}
 use Rattle.packet.specs.declared.Asked.the-variants.{Request, End, EndResponse, Nothing, Refused}
-use Rattle.packet.specs.Judge.{Held, absent}
-use Rattle.packet.specs.Reading.{Outcome, reads, refused}
+use Rattle.kinds.specs.Judge.{Held, absent}
+use Rattle.kinds.specs.Reading.{Outcome, reads, refused}
 use Rattle.packet.specs.Message.{nameSaid}
 
 -- of kind 1 the SSRC, the User ID and the Source ID; of kind 3 the SSRC and the User ID of the transmitter; of kind 6 the SSRC, and whether an Ack is

@@ -14,10 +14,10 @@ use Rattle.fields.specs.declared.field.Field.{Field}
 use Rattle.fields.specs.Header.{ackAsked, ssrcIn}
 use Rattle.fields.specs.Walk.{fieldsOf, whole}
 use Rattle.fields.specs.Claims.{Headed}
-use Rattle.packet.specs.declared.Numbers.{Numbers}
-use Rattle.packet.specs.Kind.{Row, Kind, kindOf, mayLack, mayHave, grants}
-use Rattle.packet.specs.Judge.{Held, absent, given, named, fieldsWith, fits, heldIn}
-use Rattle.packet.specs.Reading.{reads, readBy, readOf}
+use Rattle.kinds.specs.declared.Numbers.{Numbers}
+use Rattle.kinds.specs.Kind.{Row, Kind, kindOf, mayLack, mayHave, grants}
+use Rattle.kinds.specs.Judge.{Held, absent, given, named, fieldsWith, fits, heldIn}
+use Rattle.kinds.specs.Reading.{reads, readBy, readOf}
 
 -- ---- names
 

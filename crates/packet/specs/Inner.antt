@@ -1,18 +1,10 @@
--- What the inner functions say of the octets and places that they look at. The public promises rest on these, and nobody need
+-- What the inner functions say of a message's head and of its row. The public promises rest on these, and nobody need
 -- believe them: each is only a step of a proof. Assumes nothing.
-use mathlib.Core.Path.{_≡_}
-use Prim.Native.Nat.{ℕ, zero, suc, _+_, _-_, _≤_, _<_}
-use mathlib.Core.Bool.{Bool, true, false, not, _&&_, _||_}
-use mathlib.Core.List.{List, [], _∷_, map}
-use mathlib.Core.Option.{Option, none, some}
-use lib.ListN.{length, getD, getElem?}
-use lib.Dec.{T, leb, eqb}
-use Rattle.octets.specs.Choice.{pick, every}
-use Rattle.octets.specs.Buffer.{padded}
-use Rattle.octets.specs.Big.{bigAt}
-use Rattle.fields.specs.declared.field.Field.{Field}
-use Rattle.fields.specs.Header.{firstField, ssrcIn, ackAsked}
-use Rattle.fields.specs.Walk.{fieldsOf, stopFrom}
+use Prim.Native.Nat.{ℕ}
+use mathlib.Core.Bool.{Bool, true, not, _&&_}
+use mathlib.Core.List.{List, [], _∷_}
+use lib.Dec.{eqb}
+use Rattle.fields.specs.Header.{ssrcIn, ackAsked}
 use Rattle.packet.specs.declared.Head.{Head}
 use Rattle.packet.specs.declared.Name.{Name}
 use Rattle.packet.specs.declared.Indicator.{Indicator}
@@ -21,161 +13,10 @@ use Rattle.packet.specs.declared.Verdict.{Verdict}
 use Rattle.packet.specs.declared.Verdict.the-variants.{Granted, Rejected}
 use Rattle.packet.specs.declared.Message.{Message}
 use Rattle.packet.specs.declared.Message.the-variants.{ReceiveRequest, ReceiveResponse, EndRequest, EndResponse, TransmissionEnd, TransmissionEndResponse, Ack}
-use Rattle.packet.specs.declared.Numbers.{Numbers}
-use Rattle.packet.specs.declared.kind.Form.the-variants.{Barred}
-use Rattle.packet.specs.declared.kind.Slot.{Slot}
-use Rattle.packet.specs.declared.found.Found.{Found}
-use Rattle.packet.specs.declared.judge.Judged.{Judged}
-use Rattle.packet.specs.declared.judge.Use.{Use}
-use Rattle.packet.specs.declared.judge.Use.the-variants.{Fills, Repeats, Skipped}
-use Rattle.packet.specs.Kind.{Kind, kinds, slotsOf}
-use Rattle.packet.specs.Judge.{Held, absent, given, named, Filled, filledIn, faultOf}
-use Rattle.packet.specs.Reading.{Outcome, refused}
-use Rattle.packet.specs.Message.{headed}
 use Rattle.packet.specs.Row.{noNumber, flag}
 
 abbrev pub headIn : List ℕ → Head
 headIn p = record { ssrc = ssrcIn p; ack = ackAsked p }
-
--- ---- kinds by their number
-
--- the kind of MCV2 with a number, or 0
-unfoldable pub mcv2Kind : Numbers → ℕ → ℕ
-mcv2Kind n number =
-    pick (eqb number (n .endrequest)) 3
-    (pick (eqb number (n .endresponse)) 4
-    (pick (eqb number (n .txend)) 5
-    (pick (eqb number (n .txendresponse)) 6
-    (pick (eqb number (n .ack)) 7 0))))
-
--- the kind with a number from 1, or none
-unfoldable pub kindNumbered : Numbers → ℕ → Option Kind
-kindNumbered n zero = none
-kindNumbered n (suc k) = getElem? (kinds n) k
-
--- a slot that no field fills
-abbrev pub noSlot : Slot
-noSlot = record { id = 256; form = Barred; must = false }
-
-abbrev pub slotsBy : Bool → Option Kind → List Slot
-slotsBy granted none = []
-slotsBy granted (some k) = slotsOf granted k
-
--- a kind's slots, filled up to three
-unfoldable pub slotsNumbered : Numbers → ℕ → Bool → List Slot
-slotsNumbered n kind granted = padded 3 noSlot (slotsBy granted (kindNumbered n kind))
-
--- ---- a packet whose walk is whole
-
-pub record Walked (p : List ℕ) : Type 0 where
-  pub least : firstField ≤ length p
-  pub most : length p ≤ 256
-  pub whole : stopFrom p firstField ≡ length p
-
--- ---- places of fields in slots
-
-abbrev pub placeOf : Option Field → ℕ
-placeOf none = 0
-placeOf (some f) = f .at
-
-unfoldable pub placesIn : List Slot → List Field → List ℕ
-placesIn slots fs = map (λ (s : Filled). placeOf (s .by)) (filledIn slots fs)
-
--- four octets stand at each place
-unfoldable pub PlacesInside : List ℕ → List ℕ → Type 0
-PlacesInside p places = T (every (λ (a : ℕ). leb (a + 4) (length p)) places)
-
--- no place, or a place that is not 0
-abbrev pub placed : ℕ → Option ℕ
-placed zero = none
-placed (suc n) = some (suc n)
-
-pub record JudgedIs (p : List ℕ) (slots : List Slot) (r : Judged) : Type 0 where
-  pub fault : faultOf p slots (fieldsOf p) ≡ placed (r .fault)
-  pub places : r .fault ≡ 0 → r .places ≡ placesIn slots (fieldsOf p)
-  pub inside : PlacesInside p (r .places)
-
--- one slot further on
-abbrev pub later : Use → Use
-later (Fills i) = Fills (suc i)
-later Repeats = Repeats
-later Skipped = Skipped
-
--- behind a slot with the ID that is filled
-abbrev pub again : Use → Use
-again (Fills i) = Fills (suc i)
-again Repeats = Repeats
-again Skipped = Repeats
-
--- the first slot with an ID that is still open
-unfoldable pub openIn : List Slot → List ℕ → ℕ → Use
-openIn [] places id = Skipped
-openIn (s ∷ slots) [] id = Skipped
-openIn (s ∷ slots) (a ∷ places) id =
-    pick (eqb (s .id) id) (pick (eqb a 0) (Fills 0) (again (openIn slots places id))) (later (openIn slots places id))
-
--- a slot that must be filled is open
-unfoldable pub lackIn : List Slot → List ℕ → Bool
-lackIn [] places = false
-lackIn (s ∷ slots) [] = false
-lackIn (s ∷ slots) (a ∷ places) = (s .must && eqb a 0) || lackIn slots places
-
--- ---- values by the places of their fields
-
-unfoldable pub numberFrom : List ℕ → ℕ → ℕ
-numberFrom p a = bigAt 2 p (a + 2)
-
-abbrev pub nameFrom : List ℕ → ℕ → Held
-nameFrom p a = named (a + 2) (getD p (a + 1) 0)
-
-abbrev pub indicatorFrom : List ℕ → ℕ → Held
-indicatorFrom p a = pick (eqb a 0) absent (given (numberFrom p a))
-
-abbrev pub resultFrom : List ℕ → ℕ → Held
-resultFrom p a = given (pick (eqb (numberFrom p a) 1) 1 0)
-
-abbrev pub causeFrom : List ℕ → ℕ → ℕ → Held
-causeFrom p a b = pick (eqb (numberFrom p a) 1) absent (given (numberFrom p b))
-
--- the values of a kind, by the places of its fields
-unfoldable pub valuesFrom : ℕ → List ℕ → List ℕ → List Held
-valuesFrom kind p places =
-    let a = getD places 0 0 in
-    let b = getD places 1 0 in
-    let c = getD places 2 0 in
-    getD
-    ((nameFrom p a ∷ nameFrom p b ∷ indicatorFrom p c ∷ [])
-    ∷ (resultFrom p a ∷ causeFrom p a b ∷ indicatorFrom p c ∷ [])
-    ∷ (nameFrom p a ∷ indicatorFrom p b ∷ [])
-    ∷ (nameFrom p a ∷ [])
-    ∷ (given (numberFrom p a) ∷ indicatorFrom p b ∷ [])
-    ∷ []
-    ∷ (given (numberFrom p a) ∷ given (getD p (b + 2) 0) ∷ [])
-    ∷ [])
-    (kind - 1)
-    []
-
--- ---- what a packet was found to be
-
--- a refusal, beside zeros
-abbrev pub noneFound : ℕ → Found
-noneFound number = record { refusal = number; kind = 0; head = record { ssrc = 0; ack = false }; places = 0 ∷ 0 ∷ 0 ∷ [] }
-
--- the message that it is, or the refusal
-abbrev pub readFrom : List ℕ → Found → Outcome
-readFrom p f = pick (eqb (f .refusal) 0) (headed (f .kind) (f .head) (valuesFrom (f .kind) p (f .places))) (refused (f .refusal) 0)
-
--- one of the seven kinds, its fields inside
-pub record Sorted (p : List ℕ) (f : Found) : Type 0 where
-  pub above : 0 < f .kind
-  pub below : f .kind < 8
-  pub most : length p ≤ 256
-  pub inside : PlacesInside p (f .places)
-
--- a packet that reads so was found to be this
-pub record FoundIs (p : List ℕ) (o : Outcome) (f : Found) : Type 0 where
-  pub told : readFrom p f ≡ o
-  pub sorted : f .refusal ≡ 0 → Sorted p f
 
 -- ---- a message as a row
 

@@ -1,6 +1,3 @@
-pub mod Kind
-pub mod Judge
-pub mod Reading
 pub mod Message
 pub mod Asked
 pub mod Row

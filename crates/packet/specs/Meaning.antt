@@ -7,8 +7,8 @@ use mathlib.Core.Option.{Option, none, some}
 use lib.ListN.{length, take, drop}
 use lib.Dec.{leb}
 use Rattle.octets.specs.Choice.{pick}
-use Rattle.packet.specs.Judge.{Held, absent, given, named}
-use Rattle.packet.specs.Reading.{Outcome, reads, refused}
+use Rattle.kinds.specs.Judge.{Held, absent, given, named}
+use Rattle.kinds.specs.Reading.{Outcome, reads, refused}
 
 -- a value: nothing where the field is absent, a number, a name, or a name whose place is not in the octets
 pub data Value : Type 0 where

@@ -11,8 +11,8 @@ use Rattle.packet.specs.declared.Message.{Message}
 use Rattle.packet.specs.declared.Message.the-variants.{ReceiveRequest, ReceiveResponse, EndRequest, EndResponse, TransmissionEnd, TransmissionEndResponse, Ack}
 use Rattle.packet.specs.declared.Reading.{Reading}
 use Rattle.packet.specs.declared.Reading.the-variants.{Read, Refused}
-use Rattle.packet.specs.Judge.{Held, absent, given, named}
-use Rattle.packet.specs.Reading.{Outcome, reads, refused}
+use Rattle.kinds.specs.Judge.{Held, absent, given, named}
+use Rattle.kinds.specs.Reading.{Outcome, reads, refused}
 
 abbrev pub nameSaid : Name → Held
 nameSaid n = named (n .at) (n .len)

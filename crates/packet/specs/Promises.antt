@@ -5,12 +5,12 @@ use Prim.Native.Nat.{ℕ}
 use mathlib.Core.List.{List}
 use Rattle.octets.specs.Promises.{one-answer, one-value}
 use Rattle.sheet.specs.declared.Sheet.{Sheet}
-use Rattle.packet.specs.declared.Numbers.{Numbers}
+use Rattle.kinds.specs.declared.Numbers.{Numbers}
 use Rattle.packet.specs.declared.Message.{Message}
 use Rattle.packet.specs.declared.Reading.{Reading}
 use Rattle.packet.specs.declared.Asked.{Asked}
-use Rattle.packet.specs.Kind.{numbersOf}
-use Rattle.packet.specs.Reading.{readBy, readOf}
+use Rattle.kinds.specs.Kind.{numbersOf}
+use Rattle.kinds.specs.Reading.{readBy, readOf}
 use Rattle.packet.specs.Message.{messageSaid, readSaid}
 use Rattle.packet.specs.Asked.{asksOf, askedSaid}
 use Rattle.packet.specs.Row.{rowFor, messageIn}

@@ -8,8 +8,8 @@ use lib.ListN.{getD, set}
 use lib.Dec.{eqb, ltb}
 use Rattle.octets.specs.Choice.{pick, same}
 use Rattle.packet.specs.declared.Message.{Message}
-use Rattle.packet.specs.Judge.{Held, absent, given, named}
-use Rattle.packet.specs.Reading.{Outcome, reads, refused}
+use Rattle.kinds.specs.Judge.{Held, absent, given, named}
+use Rattle.kinds.specs.Reading.{Outcome, reads, refused}
 use Rattle.packet.specs.Message.{messageSaid}
 
 -- MCV_NONE, where there is no number

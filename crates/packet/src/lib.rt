@@ -1,13 +1,10 @@
 // RTCP APP packets of MCVideo (document 01, "Packet"; RFC 3550, 6.7), read as one of seven messages.
-pub mod codes;
-mod found;
-mod judge;
-mod kind;
 pub mod row;
 mod values;
 
-use found::Found;
-use found::found_by;
+use kinds::Found;
+pub use kinds::Numbers;
+use kinds::found_by;
 use sheet::Refusal;
 use sheet::Sheet;
 use sheet::numbers::ACK;
@@ -22,24 +19,13 @@ use sheet::numbers::TX_END_RESPONSE;
 use sheet::numbers::are_valid;
 ghost use mathlib.Core.Path.{_≡_};
 ghost use Rattle.sheet.specs.Value.{sheetIn};
-ghost use Rattle.packet.specs.Kind.{numbersOf};
-ghost use Rattle.packet.specs.Reading.{refused, readBy};
+ghost use Rattle.kinds.specs.Kind.{numbersOf};
+ghost use Rattle.kinds.specs.Reading.{refused, readBy};
 ghost use Rattle.packet.specs.Message.{readSaid};
 ghost use Rattle.packet.specs.Asked.{asksOf, askedSaid};
-ghost use Rattle.packet.specs.Inner.{FoundIs, Sorted, readFrom};
+ghost use Rattle.kinds.specs.Inner.{Sorted, readFrom};
+ghost use Rattle.kinds.specs.Promises.{found-by≡};
 ghost use Rattle.packet.specs.Promises.{numbers-of≡, read-by≡, read≡, asked≡};
-
-// What the reader looks at of a sheet.
-pub struct Numbers {
-    pub request: u32,
-    pub response: u32,
-    pub endrequest: u32,
-    pub endresponse: u32,
-    pub txend: u32,
-    pub txendresponse: u32,
-    pub ack: u32,
-    pub resultid: u32,
-}
 
 // All zero.
 pub const NO_NUMBERS: Numbers = Numbers {
@@ -180,7 +166,7 @@ fn told(packet: &[u8], found: Found) -> Reading
     if found.refusal != 0 {
         return refused(found.refusal);
     }
-    let head = found.head;
+    let head = values::head_of(packet);
     let places = found.places;
     Reading::Read(values::message_of(packet, found.kind, head, places))
 }
@@ -194,7 +180,7 @@ pub fn read_by(numbers: Numbers, packet: &[u8]) -> Reading
 
 // What a packet is under a sheet's numbers, lent.
 fn found_lent(numbers: &[u32], packet: &[u8]) -> Found
-    ensures { λ r. ⌜ FoundIs (now (packet .entry)) (readBy (numbersOf (sheetIn (now (numbers .entry)))) (now (packet .entry))) r ⌝ }
+    ensures { λ r. ⌜ found-by≡ (numbersOf (sheetIn (now (numbers .entry)))) (now (packet .entry)) r ⌝ }
 {
     found_by(numbers_in(&numbers[..]), &packet[..])
 }
@@ -228,7 +214,7 @@ fn asking(packet: &[u8], found: Found) -> Asked
             at: 0,
         });
     }
-    let head = found.head;
+    let head = values::head_of(packet);
     let places = found.places;
     values::asked_of(packet, found.kind, head, places)
 }

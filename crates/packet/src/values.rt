@@ -5,14 +5,23 @@ use super::Indicator;
 use super::Message;
 use super::Name;
 use super::Verdict;
-use super::judge::Places;
-use super::judge::number_at;
+use kinds::Places;
 ghost use mathlib.Core.Path.{_≡_};
 ghost use Prim.Native.Nat.{_+_, _<_, _≤_};
 ghost use lib.ListN.{length};
+ghost use Rattle.octets.specs.Big.{bigAt};
 ghost use Rattle.packet.specs.Message.{nameSaid, indicatorSaid, resultSaid, causeSaid, headed, messageSaid};
 ghost use Rattle.packet.specs.Asked.{asksOf, askedSaid};
-ghost use Rattle.packet.specs.Inner.{headIn, PlacesInside, nameFrom, indicatorFrom, resultFrom, causeFrom, valuesFrom};
+ghost use Rattle.kinds.specs.Inner.{PlacesInside, nameFrom, indicatorFrom, resultFrom, causeFrom, valuesFrom};
+ghost use Rattle.packet.specs.Inner.{headIn};
+
+// The 16-bit number at the front of the value of the field at a place.
+fn number_at(packet: &[u8], at: usize) -> u16
+    requires { ⌜ at + 4 ≤ length (now packet) ⌝ }
+    ensures { λ r. ⌜ r ≡ bigAt 2 (now (packet .entry)) (at + 2) ⌝ }
+{
+    (packet[at + 2] as u16) * 256 + (packet[at + 3] as u16)
+}
 
 // The name that is the value of the field at a place.
 fn name_at(packet: &[u8], at: usize) -> Name

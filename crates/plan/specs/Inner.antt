@@ -17,8 +17,8 @@ use Rattle.packet.specs.declared.Verdict.{Verdict}
 use Rattle.packet.specs.declared.Verdict.the-variants.{Granted, Rejected}
 use Rattle.packet.specs.declared.Message.{Message}
 use Rattle.packet.specs.declared.Message.the-variants.{ReceiveRequest, ReceiveResponse, EndRequest, EndResponse, TransmissionEnd, TransmissionEndResponse, Ack}
-use Rattle.packet.specs.Judge.{Held, absent, given, named}
-use Rattle.packet.specs.Reading.{Outcome}
+use Rattle.kinds.specs.Judge.{Held, absent, given, named}
+use Rattle.kinds.specs.Reading.{Outcome}
 use Rattle.packet.specs.Row.{noNumber, flag, columns, firstNumber, messageRow, numbersSay}
 use Rattle.packet.specs.Claims.{nameRight}
 use Rattle.packet.specs.Meaning.{meaning}

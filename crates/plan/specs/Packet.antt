@@ -14,10 +14,10 @@ use Rattle.sheet.specs.Value.{sheetFrom}
 use Rattle.sheet.specs.Judge.{userId}
 use Rattle.fields.specs.Header.{firstField, word}
 use Rattle.fields.specs.Layout.{Content, laidAll}
-use Rattle.packet.specs.declared.Numbers.{Numbers}
-use Rattle.packet.specs.declared.kind.Form.{Form}
-use Rattle.packet.specs.declared.kind.Form.the-variants.{UserId, Number, Cause, Result, MessageType, Barred}
-use Rattle.packet.specs.Kind.{Row, Kind, kinds, mayLack, mayHave, grants, numbersOf}
+use Rattle.kinds.specs.declared.Numbers.{Numbers}
+use Rattle.kinds.specs.declared.kind.Form.{Form}
+use Rattle.kinds.specs.declared.kind.Form.the-variants.{UserId, Number, Cause, Result, MessageType, Barred}
+use Rattle.kinds.specs.Kind.{Row, Kind, kinds, mayLack, mayHave, grants, numbersOf}
 use Rattle.packet.specs.Meaning.{Value, nothing, numeral, spelt, nowhere, nameHeld, numberHeld, Meaning}
 
 -- ---- which values a kind takes

@@ -12,11 +12,11 @@ use Rattle.sheet.specs.Value.{sheetFrom}
 use Rattle.fields.specs.Walk.{toWord}
 use Rattle.fields.specs.Layout.{Content, laid}
 use Rattle.packet.specs.declared.Name.{Name}
-use Rattle.packet.specs.declared.kind.Form.{Form}
-use Rattle.packet.specs.declared.kind.Form.the-variants.{UserId, Number, Cause, Result, MessageType, Barred}
-use Rattle.packet.specs.Kind.{Row, Kind, kinds, numbersOf}
-use Rattle.packet.specs.Judge.{Held, absent, given, named}
-use Rattle.packet.specs.Reading.{Outcome, reads, refused}
+use Rattle.kinds.specs.declared.kind.Form.{Form}
+use Rattle.kinds.specs.declared.kind.Form.the-variants.{UserId, Number, Cause, Result, MessageType, Barred}
+use Rattle.kinds.specs.Kind.{Row, Kind, kinds, numbersOf}
+use Rattle.kinds.specs.Judge.{Held, absent, given, named}
+use Rattle.kinds.specs.Reading.{Outcome, reads, refused}
 use Rattle.packet.specs.Message.{nameSaid}
 use Rattle.packet.specs.Claims.{nameRight}
 use Rattle.plan.specs.declared.Part.{Part}

@@ -4,7 +4,7 @@ use mathlib.Core.Path.{_≡_, refl, sym, ap, _∙_}
 use Prim.Native.Nat.{ℕ}
 use mathlib.Core.List.{List}
 use Rattle.octets.specs.Promises.{one-answer, one-value}
-use Rattle.packet.specs.Judge.{Held, absent, given, named}
+use Rattle.kinds.specs.Judge.{Held, absent, given, named}
 use Rattle.packet.specs.Row.{messageIn}
 use Rattle.plan.specs.declared.Part.{Part}
 use Rattle.plan.specs.declared.Part.the-variants.{Absent, Word, Named}

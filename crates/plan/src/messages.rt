@@ -1,11 +1,11 @@
 // Each message as a packet: its letters, its number on the sheet, and its fields in the order written (document 01, "Packet").
 use super::Part;
 use super::Plan;
+use kinds::codes;
+use kinds::codes::MCV0;
+use kinds::codes::MCV1;
+use kinds::codes::MCV2;
 use packet::Name;
-use packet::codes;
-use packet::codes::MCV0;
-use packet::codes::MCV1;
-use packet::codes::MCV2;
 use packet::row::ABOUT;
 use packet::row::ACK;
 use packet::row::CAUSE;

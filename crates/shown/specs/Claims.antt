@@ -6,8 +6,8 @@ use lib.ListN.{length}
 use lib.Dec.{T}
 use Rattle.sheet.specs.declared.Sheet.{Sheet}
 use Rattle.sheet.specs.Value.{validAlone}
-use Rattle.packet.specs.declared.Numbers.{Numbers}
-use Rattle.packet.specs.Kind.{numbersOf}
+use Rattle.kinds.specs.declared.Numbers.{Numbers}
+use Rattle.kinds.specs.Kind.{numbersOf}
 use Rattle.shown.specs.Line.{lineOf, lineBy, lineRoom}
 
 -- Under a sheet's numbers a line prints what it does under the sheet.

@@ -4,8 +4,8 @@ use Prim.Native.Nat.{ℕ}
 use mathlib.Core.List.{List, [], _∷_, _++_, map}
 use lib.ListN.{getD, drop}
 use Rattle.sheet_text.specs.Line.{lf}
-use Rattle.packet.specs.Judge.{Held, absent, given, named}
-use Rattle.packet.specs.Reading.{Outcome, reads, refused}
+use Rattle.kinds.specs.Judge.{Held, absent, given, named}
+use Rattle.kinds.specs.Reading.{Outcome, reads, refused}
 use Rattle.shown.specs.declared.values.Form.{Form}
 use Rattle.shown.specs.declared.values.Form.the-variants.{Absent, Given, Named}
 use Rattle.shown.specs.declared.values.Value.{Value}

@@ -11,9 +11,9 @@ use Rattle.octets.specs.Text.{ascii, decimal}
 use Rattle.hex.specs.Line.{packetIn}
 use Rattle.sheet.specs.declared.Sheet.{Sheet}
 use Rattle.sheet_text.specs.Line.{lf}
-use Rattle.packet.specs.declared.Numbers.{Numbers}
-use Rattle.packet.specs.Judge.{Held, absent, given, named}
-use Rattle.packet.specs.Reading.{Outcome, reads, refused, readBy, readOf}
+use Rattle.kinds.specs.declared.Numbers.{Numbers}
+use Rattle.kinds.specs.Judge.{Held, absent, given, named}
+use Rattle.kinds.specs.Reading.{Outcome, reads, refused, readBy, readOf}
 
 -- ---- the ten values of a message
 

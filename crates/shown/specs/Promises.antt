@@ -8,10 +8,10 @@ use lib.Dec.{leb}
 use Rattle.octets.specs.Buffer.{putAt}
 use Rattle.octets.specs.Promises.{one-value}
 use Rattle.sheet.specs.declared.Refusal.{Refusal}
-use Rattle.packet.specs.declared.Numbers.{Numbers}
+use Rattle.kinds.specs.declared.Numbers.{Numbers}
 use Rattle.packet.specs.declared.Message.{Message}
 use Rattle.packet.specs.Message.{messageSaid}
-use Rattle.packet.specs.Reading.{refused}
+use Rattle.kinds.specs.Reading.{refused}
 use Rattle.shown.specs.declared.Printing.{Printing}
 use Rattle.shown.specs.Printing.{Prints, prints-once}
 use Rattle.shown.specs.Line.{textOf, lineBy, sheetLine, lineRoom, fitting}

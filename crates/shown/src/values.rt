@@ -11,7 +11,7 @@ ghost use Prim.Native.Nat.{_+_, _-_, _≤_, _<_};
 ghost use mathlib.Core.List.{[], _∷_, map};
 ghost use lib.ListN.{length, getD, take, drop};
 ghost use Rattle.octets.specs.Choice.{pick};
-ghost use Rattle.packet.specs.Judge.{Held};
+ghost use Rattle.kinds.specs.Judge.{Held};
 ghost use Rattle.packet.specs.Message.{nameSaid, indicatorSaid, resultSaid, causeSaid, messageSaid};
 ghost use Rattle.shown.specs.Line.{valueText, labels};
 ghost use Rattle.shown.specs.Inner.{valueSaid, tenSaid, entryText, valuesFrom};

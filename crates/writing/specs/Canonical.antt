@@ -9,10 +9,10 @@ use lib.Dec.{eqb}
 use Rattle.octets.specs.Choice.{pick, every}
 use Rattle.fields.specs.declared.field.Field.{Field}
 use Rattle.fields.specs.Walk.{zeros, padding, fieldsOf, whole}
-use Rattle.packet.specs.declared.Numbers.{Numbers}
-use Rattle.packet.specs.declared.kind.Form.{Form}
-use Rattle.packet.specs.declared.kind.Form.the-variants.{UserId, Number, Cause, Result, MessageType, Barred}
-use Rattle.packet.specs.Kind.{Row, Kind, kindOf}
+use Rattle.kinds.specs.declared.Numbers.{Numbers}
+use Rattle.kinds.specs.declared.kind.Form.{Form}
+use Rattle.kinds.specs.declared.kind.Form.the-variants.{UserId, Number, Cause, Result, MessageType, Barred}
+use Rattle.kinds.specs.Kind.{Row, Kind, kindOf}
 
 -- a value with nothing in it that is not looked at: "no phrase" behind a cause; "a value octet, a zero octet"
 unfoldable pub bare : Form → List ℕ → Field → Bool

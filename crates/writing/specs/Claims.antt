@@ -10,8 +10,8 @@ use lib.Dec.{T, ltb}
 use Rattle.octets.specs.Choice.{every}
 use Rattle.sheet.specs.declared.Sheet.{Sheet}
 use Rattle.sheet.specs.Value.{validAlone}
-use Rattle.packet.specs.Kind.{numbersOf}
-use Rattle.packet.specs.Reading.{Outcome, readOf}
+use Rattle.kinds.specs.Kind.{numbersOf}
+use Rattle.kinds.specs.Reading.{Outcome, readOf}
 use Rattle.packet.specs.Meaning.{Meaning, meaning}
 use Rattle.writing.specs.Writing.{made, refused, writeOf}
 use Rattle.writing.specs.Canonical.{canonical}

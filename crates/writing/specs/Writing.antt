@@ -9,7 +9,7 @@ use Rattle.octets.specs.Choice.{pick}
 use Rattle.octets.specs.Buffer.{over}
 use Rattle.sheet.specs.declared.Sheet.{Sheet}
 use Rattle.sheet.specs.Value.{sheetFrom, validAlone}
-use Rattle.packet.specs.Reading.{Outcome}
+use Rattle.kinds.specs.Reading.{Outcome}
 use Rattle.packet.specs.Meaning.{meaning}
 use Rattle.plan.specs.Packet.{packetFor, fitting}
 use Rattle.writing.specs.declared.Writing.{Writing}

@@ -12,7 +12,7 @@ ghost use Rattle.fields.specs.Layout.{laid};
 ghost use Rattle.plan.specs.Plan.{userContent, fieldSize, partOctets, partRight, partSize, planOctets, planRight, planSize};
 
 // The ID octet of a User ID.
-const USER_ID: u8 = packet::codes::USER_ID as u8;
+const USER_ID: u8 = kinds::codes::USER_ID as u8;
 
 // Puts a field that fills a word, and gives the place past it.
 fn put_word(s: &mut [u8], at: usize, word: u32) -> usize

@@ -17,7 +17,7 @@ use Rattle.sheet_text.specs.declared.Reading.{Reading}
 use Rattle.sheet_text.specs.Reading.{Outcome as SheetOutcome, reads as sheetReads, refused as sheetRefused, outcome}
 use Rattle.sheet_text.specs.Reading.{readingOf, usersFrom, readOf, usersIn}
 use Rattle.sheet_text.proofs.Laws.Readings.{outcome-reads}
-use Rattle.packet.specs.Reading.{Outcome, refused}
+use Rattle.kinds.specs.Reading.{Outcome, refused}
 use Rattle.packet.specs.Row.{messageRow, numbersSay, messageIn}
 use Rattle.streams.specs.declared.Record.{Record}
 use Rattle.streams.specs.Record.{own}

@@ -13,12 +13,12 @@ use Rattle.sheet.specs.Value.{validAlone, validWith}
 use Rattle.sheet.specs.Find.{seatOfSsrc, seatOfUser}
 use Rattle.fields.specs.Header.{sizeRight, headRight}
 use Rattle.fields.specs.Walk.{fieldsOf, whole}
-use Rattle.packet.specs.declared.Numbers.{Numbers}
+use Rattle.kinds.specs.declared.Numbers.{Numbers}
 use Rattle.packet.specs.declared.Message.{Message}
 use Rattle.packet.specs.declared.Message.the-variants.{ReceiveRequest, ReceiveResponse, EndRequest, EndResponse, TransmissionEnd, TransmissionEndResponse, Ack}
-use Rattle.packet.specs.Kind.{Kind, kindOf, numbersOf}
-use Rattle.packet.specs.Judge.{faultOf}
-use Rattle.packet.specs.Reading.{Outcome, reads, refused, slotsIn, messageOf, readAs, readBy, readOf}
+use Rattle.kinds.specs.Kind.{Kind, kindOf, numbersOf}
+use Rattle.kinds.specs.Judge.{faultOf}
+use Rattle.kinds.specs.Reading.{Outcome, reads, refused, slotsIn, messageOf, readAs, readBy, readOf}
 use Rattle.packet.specs.Message.{messageSaid}
 use Rattle.packet.specs.Meaning.{Meaning}
 use Rattle.packet.specs.Row.{rowFor}

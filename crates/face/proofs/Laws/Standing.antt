@@ -11,12 +11,12 @@ use borrow.Author.Tests.{ne-eqb}
 use Rattle.octets.specs.Choice.{All}
 use Rattle.octets.proofs.Choice.{T-and-left, T-and-right, pick-cases}
 use Rattle.sheet.specs.declared.Sheet.{Sheet}
-use Rattle.packet.specs.declared.Numbers.{Numbers}
-use Rattle.packet.specs.declared.kind.Form.{Form}
-use Rattle.packet.specs.declared.kind.Form.the-variants.{Number, Cause, Result, MessageType}
-use Rattle.packet.specs.Kind.{Row, Kind, always, unlessGranted, row, user, indicator, kindRow, kinds, mayLack, mayHave, grants, numbersOf}
-use Rattle.packet.specs.Judge.{Held, absent, given, named}
-use Rattle.packet.specs.Reading.{Outcome, reads, refused}
+use Rattle.kinds.specs.declared.Numbers.{Numbers}
+use Rattle.kinds.specs.declared.kind.Form.{Form}
+use Rattle.kinds.specs.declared.kind.Form.the-variants.{Number, Cause, Result, MessageType}
+use Rattle.kinds.specs.Kind.{Row, Kind, always, unlessGranted, row, user, indicator, kindRow, kinds, mayLack, mayHave, grants, numbersOf}
+use Rattle.kinds.specs.Judge.{Held, absent, given, named}
+use Rattle.kinds.specs.Reading.{Outcome, reads, refused}
 use Rattle.packet.specs.Meaning.{Value, nothing, numeral, spelt, nowhere, valueIn, meaning}
 use Rattle.packet.specs.Row.{noNumber, flag, columns, withHeld, withAll, messageRow, heldIn, numbersSay}
 use Rattle.plan.specs.Packet.{holds, isNothing, takes, takesAll, isOne, isNumber, within, writable, packetFor}

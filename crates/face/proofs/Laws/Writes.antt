@@ -9,8 +9,8 @@ use Rattle.octets.specs.Choice.{pick}
 use Rattle.sheet.specs.declared.Sheet.{Sheet}
 use Rattle.sheet.specs.Value.{validAlone, validWith}
 use Rattle.sheet.specs.Find.{userOf}
-use Rattle.packet.specs.Kind.{numbersOf}
-use Rattle.packet.specs.Reading.{Outcome}
+use Rattle.kinds.specs.Kind.{numbersOf}
+use Rattle.kinds.specs.Reading.{Outcome}
 use Rattle.packet.specs.Meaning.{meaning}
 use Rattle.plan.specs.Packet.{packetOf, packetFor}
 use Rattle.writing.specs.Writing.{Made, made, refused, madeOf, roomFor, writeOf}

@@ -2,7 +2,7 @@
 use mathlib.Core.Path.{sym, ap, _∙_, subst}
 use borrow.Author.Needs.{needs}
 use Rattle.sheet.specs.Value.{sheetIn}
-use Rattle.packet.specs.Reading.{Outcome, readOf}
+use Rattle.kinds.specs.Reading.{Outcome, readOf}
 use Rattle.packet.specs.Message.{readSaid}
 use Rattle.face.specs.Calls.{outcomeSays, readSays}
 use Rattle.rows.specs.Promises.{Rowed}

@@ -16,10 +16,10 @@ use Rattle.sheet.specs.Value.{validWith, validAlone}
 use Rattle.sheet.specs.Find.{seatOfSsrc}
 use Rattle.fields.specs.Header.{sizeRight, headRight}
 use Rattle.fields.specs.Walk.{fieldsOf, whole}
-use Rattle.packet.specs.declared.kind.Slot.{Slot}
-use Rattle.packet.specs.Judge.{faultOf}
-use Rattle.packet.specs.Kind.{Kind, kindOf, numbersOf}
-use Rattle.packet.specs.Reading.{Outcome, reads, refused, slotsIn, messageOf, readAs, readBy, readOf}
+use Rattle.kinds.specs.declared.kind.Slot.{Slot}
+use Rattle.kinds.specs.Judge.{faultOf}
+use Rattle.kinds.specs.Kind.{Kind, kindOf, numbersOf}
+use Rattle.kinds.specs.Reading.{Outcome, reads, refused, slotsIn, messageOf, readAs, readBy, readOf}
 use Rattle.packet.specs.Meaning.{Meaning, meaning}
 use Rattle.streams.specs.declared.Event.{Event}
 use Rattle.streams.specs.declared.What.{What}

@@ -14,13 +14,13 @@ use Rattle.sheet.specs.Judge.{userId}
 use Rattle.sheet.specs.Value.{validAlone, validWith}
 use Rattle.sheet.proofs.Laws.Seats.{valid-alone}
 use Rattle.packet.specs.declared.Name.{Name}
-use Rattle.packet.specs.declared.Numbers.{Numbers}
+use Rattle.kinds.specs.declared.Numbers.{Numbers}
 use Rattle.packet.specs.declared.Asked.{Asked}
-use Rattle.packet.specs.Kind.{numbersOf}
-use Rattle.packet.specs.Judge.{Held, absent}
+use Rattle.kinds.specs.Kind.{numbersOf}
+use Rattle.kinds.specs.Judge.{Held, absent}
 use Rattle.packet.specs.Claims.{nameRight}
 use Rattle.packet.specs.Message.{nameSaid}
-use Rattle.packet.specs.Reading.{Outcome, reads, refused, readBy, readOf}
+use Rattle.kinds.specs.Reading.{Outcome, reads, refused, readBy, readOf}
 use Rattle.packet.specs.Asked.{Asks, request, end, endResponse, nothing, refusal, asksOf, askedSaid}
 use Rattle.packet.specs.Meaning.{valueIn, nameHeld}
 use Rattle.packet.proofs.Laws.NamesInside.{names-right-by}

@@ -7,7 +7,7 @@ use lib.ListN.{length, length-append}
 use lib.Dec.{eqb}
 use Rattle.octets.specs.Choice.{pick}
 use Rattle.sheet_text.specs.Line.{lf}
-use Rattle.packet.specs.declared.Numbers.{Numbers}
+use Rattle.kinds.specs.declared.Numbers.{Numbers}
 use Rattle.shown.specs.Line.{lineBy}
 use Rattle.shown.proofs.Laws.Fits.{line-fits}
 use Rattle.look.specs.Steps.{inLines, lastText, endedFrom, leftFrom, lastOf, linesText}

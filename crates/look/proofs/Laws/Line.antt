@@ -16,9 +16,9 @@ use Rattle.sheet.proofs.Laws.Laid.{laid-valid}
 use Rattle.sheet.proofs.Laws.Claims.{valid-alone-exactly}
 use Rattle.sheet_text.specs.Reading as sheet-reading
 use Rattle.sheet_text.proofs.Laws.Readings.{outcome-reads}
-use Rattle.packet.specs.declared.Numbers.{Numbers}
-use Rattle.packet.specs.Kind.{numbersOf}
-use Rattle.packet.specs.Reading.{readBy}
+use Rattle.kinds.specs.declared.Numbers.{Numbers}
+use Rattle.kinds.specs.Kind.{numbersOf}
+use Rattle.kinds.specs.Reading.{readBy}
 use Rattle.hex.specs.Line.{mostDigits, lineRight, packetIn}
 use Rattle.shown.specs.Line.{lineAs, lineOf, lineBy}
 use Rattle.shown.proofs.Laws.Line.{under-a-sheet}

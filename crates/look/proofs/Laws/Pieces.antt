@@ -17,8 +17,8 @@ use Rattle.sheet_text.specs.Line.{lf, tailOf, widest, longest, textOf}
 use Rattle.sheet_text.specs.Reading as sheet-reading
 use Rattle.sheet_text.proofs.Laws.Readings.{outcome-reads}
 use Rattle.sheet_text.proofs.Laws.Decides.{longest-decides}
-use Rattle.packet.specs.declared.Numbers.{Numbers}
-use Rattle.packet.specs.Kind.{numbersOf}
+use Rattle.kinds.specs.declared.Numbers.{Numbers}
+use Rattle.kinds.specs.Kind.{numbersOf}
 use Rattle.hex.specs.Line.{mostDigits}
 use Rattle.shown.specs.Line.{lineBy, sheetLine}
 use Rattle.look.specs.declared.Look.{Look}

@@ -15,8 +15,8 @@ use Rattle.octets.proofs.Buffer.{over-putAt, put-both}
 use Rattle.octets.proofs.Text.{length-decimal}
 use Rattle.sheet_text.specs.Reading.{noRefusal, readOf}
 use Rattle.sheet_text.proofs.Laws.Readings.{read-at}
-use Rattle.packet.specs.declared.Numbers.{Numbers}
-use Rattle.packet.specs.Kind.{numbersOf}
+use Rattle.kinds.specs.declared.Numbers.{Numbers}
+use Rattle.kinds.specs.Kind.{numbersOf}
 use Rattle.shown.specs.declared.Printing.the-variants.{Printed, Refused as PrintingRefused}
 use Rattle.shown.specs.Printing.{noRoom}
 use Rattle.shown.specs.Line.{sheetLine}

@@ -16,8 +16,8 @@ use Rattle.octets.proofs.Choice.{T-true, true-T, T-and-left, T-and-right, every
 use Rattle.octets.proofs.Buffer.{putAt-next, putAt-nil, put-both, putAt-zeros, length-putAt, length-padded}
 use Rattle.sheet_text.specs.Line.{lf}
 use Rattle.sheet_text.specs.Reading.{readOf}
-use Rattle.packet.specs.Kind.{numbersOf}
-use Rattle.packet.specs.declared.Numbers.{Numbers}
+use Rattle.kinds.specs.Kind.{numbersOf}
+use Rattle.kinds.specs.declared.Numbers.{Numbers}
 use Rattle.hex.specs.Line.{mostDigits}
 use Rattle.shown.specs.Line.{lineBy, sheetLine, lineRoom}
 use Rattle.shown.specs.Promises.{Put, put≡}

@@ -10,7 +10,7 @@ use lib.Seq.{length-take-le, take-all}
 use Rattle.octets.proofs.Buffer.{length-putAt}
 use Rattle.sheet_text.specs.Reading.{readOf}
 use Rattle.sheet_text.proofs.Laws.Readings.{read-at}
-use Rattle.packet.specs.Kind.{numbersOf}
+use Rattle.kinds.specs.Kind.{numbersOf}
 use Rattle.shown.specs.Line.{sheetLine}
 use Rattle.shown.specs.Promises.{Put}
 use Rattle.shown.proofs.Laws.Fits.{fitting-whole}

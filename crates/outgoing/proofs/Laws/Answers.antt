@@ -22,7 +22,7 @@ use Rattle.packet.specs.Message.{messageSaid}
 use Rattle.packet.specs.Row.{noNumber, columns, withHeld, withAll, messageRow, rowFor, messageIn}
 use Rattle.packet.specs.Inner.{isMessage}
 use Rattle.packet.proofs.Laws.Rows.{own-row}
-use Rattle.packet.specs.Judge.{named}
+use Rattle.kinds.specs.Judge.{named}
 use Rattle.packet.specs.Meaning.{spelt, valueIn, meaning}
 use Rattle.plan.specs.Packet.{fitting, packetFor}
 use Rattle.writing.specs.Writing.{Made, made, refused, roomFor, writeBy}

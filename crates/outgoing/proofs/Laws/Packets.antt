@@ -15,7 +15,7 @@ use Rattle.sheet.specs.Judge.{userId}
 use Rattle.sheet.specs.Value as value
 use Rattle.sheet.specs.Value.{validWith, validAlone}
 use Rattle.sheet.proofs.Laws.Bounds.{valid-within}
-use Rattle.packet.specs.Kind.{Kind, kinds, mayLack, mayHave, isResult, grants, numbersOf}
+use Rattle.kinds.specs.Kind.{Kind, kinds, mayLack, mayHave, isResult, grants, numbersOf}
 use Rattle.packet.specs.Meaning.{Meaning}
 use Rattle.plan.specs.Packet.{within, holds, isNothing, takes, takesAll, isOne, writable, packetAs, kindWith, packetOf}
 use Rattle.writing.specs.Writing.{Made, made, refused, roomFor}

@@ -14,14 +14,14 @@ use Rattle.fields.specs.declared.field.Field.{Field}
 use Rattle.fields.specs.Header.{ackAsked, ssrcIn}
 use Rattle.fields.specs.Walk.{fieldsOf, whole}
 use Rattle.fields.specs.Claims.{Headed}
-use Rattle.packet.specs.declared.kind.Form.the-variants.{Cause, Result}
-use Rattle.packet.specs.declared.kind.Slot.{Slot}
-use Rattle.packet.specs.declared.Numbers.{Numbers}
-use Rattle.packet.specs.Kind.{always, unlessGranted, Row, row, indicator, Kind, kinds, hasKind, kindOf, settled, slotsOf, mayLack, isResult, grants}
-use Rattle.packet.specs.Judge.{Held, fits, heldIn, fieldsWith, numberAt, grantIn, granted, filledIn, faultOf, heldBy}
-use Rattle.packet.specs.Reading.{reads, slotsIn, messageOf, readAs, readBy}
+use Rattle.kinds.specs.declared.kind.Form.the-variants.{Cause, Result}
+use Rattle.kinds.specs.declared.kind.Slot.{Slot}
+use Rattle.kinds.specs.declared.Numbers.{Numbers}
+use Rattle.kinds.specs.Kind.{always, unlessGranted, Row, row, indicator, Kind, kinds, hasKind, kindOf, settled, slotsOf, mayLack, isResult, grants}
+use Rattle.kinds.specs.Judge.{Held, fits, heldIn, fieldsWith, numberAt, grantIn, granted, filledIn, faultOf, heldBy}
+use Rattle.kinds.specs.Reading.{reads, slotsIn, messageOf, readAs, readBy}
 use Rattle.packet.specs.Claims.{present, AllowsAll, isOne, AcceptsExactly}
-use Rattle.packet.proofs.Laws.Reading.{readBy-past}
+use Rattle.kinds.proofs.Laws.Reading.{readBy-past}
 use Rattle.packet.proofs.Laws.Allowed.{uses, orderly, arranged-used, present-own, Judged, Allowed, judged-allowed, allowed-judged}
 
 -- ---- Result

@@ -15,13 +15,13 @@ use Rattle.octets.proofs.Choice.{or-false-both, T-true, true-T, decide, T-and, 
 use Rattle.octets.proofs.Keep.{keep-keep}
 use Rattle.fields.specs.declared.field.Field.{Field}
 use Rattle.fields.specs.Walk.{fieldsOf}
-use Rattle.packet.specs.declared.kind.Form.the-variants.{Barred}
-use Rattle.packet.specs.declared.kind.Slot.{Slot}
-use Rattle.packet.specs.Kind.{Need, always, maybe, unlessGranted, Row, row, settled, mayLack, mayHave}
-use Rattle.packet.specs.Judge.{Held, fits, fieldsWith, slotsWith, Filled, filledBehind, filledIn, isAbsent, lacking, faultOf, heldBy}
+use Rattle.kinds.specs.declared.kind.Form.the-variants.{Barred}
+use Rattle.kinds.specs.declared.kind.Slot.{Slot}
+use Rattle.kinds.specs.Kind.{Need, always, maybe, unlessGranted, Row, row, settled, mayLack, mayHave}
+use Rattle.kinds.specs.Judge.{Held, fits, fieldsWith, slotsWith, Filled, filledBehind, filledIn, isAbsent, lacking, faultOf, heldBy}
 use Rattle.packet.specs.Claims.{useful, Arranged, present, Allows, AllowsAll}
-use Rattle.packet.proofs.Laws.Sound.{Sound, AllSound, fault-sound}
-use Rattle.packet.proofs.Laws.Judging.{fitting, fitting-length, slotsWith-own, slotsWith-other, inUse, slotsWith-none, faultOf-none, leftFor, every-leftFor, leftFor-snoc, filledBehind-cons}
+use Rattle.kinds.proofs.Laws.Sound.{Sound, AllSound, fault-sound}
+use Rattle.kinds.proofs.Laws.Judging.{fitting, fitting-length, slotsWith-own, slotsWith-other, inUse, slotsWith-none, faultOf-none, leftFor, every-leftFor, leftFor-snoc, filledBehind-cons}
 
 -- ---- a row and its slot
 

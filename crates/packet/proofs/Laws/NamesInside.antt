@@ -15,15 +15,15 @@ use Rattle.fields.specs.declared.field.Field.{Field}
 use Rattle.fields.specs.Header.{sizeRight, headRight}
 use Rattle.fields.specs.Walk.{fieldsOf, valueOf, whole}
 use Rattle.fields.proofs.Laws.Fields.{coded-says}
-use Rattle.packet.specs.declared.kind.Form.{Form}
-use Rattle.packet.specs.declared.kind.Form.the-variants.{UserId, Number, Cause, Result, MessageType, Barred}
-use Rattle.packet.specs.declared.Numbers.{Numbers}
-use Rattle.packet.specs.declared.kind.Slot.{Slot}
-use Rattle.packet.specs.Kind.{Kind, kindOf, numbersOf}
-use Rattle.packet.specs.Judge.{Held, fits, heldIn, Filled, filledIn, faultOf, heldBy}
-use Rattle.packet.specs.Reading.{Outcome, reads, check, readAs, readBy, readOf, slotsIn, messageOf}
+use Rattle.kinds.specs.declared.kind.Form.{Form}
+use Rattle.kinds.specs.declared.kind.Form.the-variants.{UserId, Number, Cause, Result, MessageType, Barred}
+use Rattle.kinds.specs.declared.Numbers.{Numbers}
+use Rattle.kinds.specs.declared.kind.Slot.{Slot}
+use Rattle.kinds.specs.Kind.{Kind, kindOf, numbersOf}
+use Rattle.kinds.specs.Judge.{Held, fits, heldIn, Filled, filledIn, faultOf, heldBy}
+use Rattle.kinds.specs.Reading.{Outcome, reads, check, readAs, readBy, readOf, slotsIn, messageOf}
 use Rattle.packet.specs.Claims.{nameRight, NamesRight}
-use Rattle.packet.proofs.Laws.Sound.{filled, Sound, AllSound, fault-sound}
+use Rattle.kinds.proofs.Laws.Sound.{filled, Sound, AllSound, fault-sound}
 use Rattle.packet.proofs.Laws.Accepts.{messageOf-reads}
 
 -- ---- the value of a field

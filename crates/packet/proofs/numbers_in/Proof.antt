@@ -4,7 +4,7 @@ use mathlib.Core.Path.{sym, ap}
 use borrow.Author.Needs.{needs}
 use Rattle.sheet.specs.Value.{sheetBy, sheetFrom}
 use Rattle.sheet.proofs.Laws.Values.{sheetIn-counted, sheetIn-other}
-use Rattle.packet.specs.Kind.{numbersOf}
+use Rattle.kinds.specs.Kind.{numbersOf}
 use Rattle.packet.proofs.numbers_in.Statement.{statement}
 use Rattle.packet.proofs.numbers_in.Tie as tie
 

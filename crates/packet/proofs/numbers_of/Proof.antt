@@ -1,7 +1,7 @@
 -- `packet::numbers_of` meets its contract: field by field.
 -- Assumes nothing.
 use mathlib.Core.Path.{refl}
-use Rattle.packet.specs.Kind.{numbersOf}
+use Rattle.kinds.specs.Kind.{numbersOf}
 use Rattle.packet.proofs.numbers_of.Statement.{statement}
 use Rattle.packet.proofs.numbers_of.Tie as tie
 

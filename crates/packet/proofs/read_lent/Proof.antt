@@ -3,7 +3,7 @@
 use mathlib.Core.Path.{_∙_, sym}
 use borrow.Author.Needs.{needs}
 use borrow.Author.Tests.{not-true, not-false}
-use Rattle.packet.specs.Reading.{readOf}
+use Rattle.kinds.specs.Reading.{readOf}
 use Rattle.packet.proofs.read_lent.Statement.{statement}
 use Rattle.packet.proofs.read_lent.Tie as tie
 

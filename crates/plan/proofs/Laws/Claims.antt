@@ -9,7 +9,7 @@ use lib.Dec.{T}
 use Rattle.octets.proofs.Choice.{pick-cases, T-true, T-and-left, T-and-right, decide}
 use Rattle.sheet.specs.declared.Sheet.{Sheet}
 use Rattle.sheet.specs.Value.{sheetFrom}
-use Rattle.packet.specs.Kind.{numbersOf}
+use Rattle.kinds.specs.Kind.{numbersOf}
 use Rattle.packet.specs.Message.{messageSaid}
 use Rattle.packet.specs.Row.{messageIn}
 use Rattle.plan.specs.declared.Plan.{Plan}

@@ -17,7 +17,7 @@ use Rattle.sheet.specs.Value as value
 use Rattle.sheet.specs.Value.{validAlone}
 use Rattle.sheet.proofs.Laws.Bounds.{valid-within}
 use Rattle.sheet.proofs.Laws.Values.{sheetIn-counted, valid-counted}
-use Rattle.packet.specs.Kind.{kinds, numbersOf}
+use Rattle.kinds.specs.Kind.{kinds, numbersOf}
 use Rattle.plan.specs.Packet.{fits, fitting}
 
 -- ---- numbers that go into their places

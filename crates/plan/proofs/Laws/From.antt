@@ -11,8 +11,8 @@ use borrow.Author.Tests.{le-ltb, ne-eqb}
 use Rattle.octets.specs.Choice.{pick}
 use Rattle.octets.proofs.Choice.{T-and, T-and-left, T-and-right, false-T, pick-cases}
 use Rattle.sheet.specs.Value.{sheetBy, sheetFrom}
-use Rattle.packet.specs.Judge.{absent, given}
-use Rattle.packet.specs.Reading.{reads}
+use Rattle.kinds.specs.Judge.{absent, given}
+use Rattle.kinds.specs.Reading.{reads}
 use Rattle.packet.specs.Message.{indicatorSaid, resultSaid, causeSaid, messageSaid}
 use Rattle.packet.specs.declared.Indicator.the-variants.{Absent, Given}
 use Rattle.packet.specs.declared.Verdict.{Verdict}

@@ -8,14 +8,14 @@ use Prim.Native.Nat.{ℕ}
 use lib.Dec.{T}
 use Rattle.octets.proofs.Choice.{T-and, T-and-left, T-and-right, pick-cases}
 use Rattle.sheet.specs.declared.Sheet.{Sheet}
-use Rattle.packet.specs.declared.Numbers.{Numbers}
+use Rattle.kinds.specs.declared.Numbers.{Numbers}
 use Rattle.packet.specs.declared.Indicator.{Indicator}
 use Rattle.packet.specs.declared.Indicator.the-variants.{Absent, Given}
 use Rattle.packet.specs.declared.Verdict.the-variants.{Granted, Rejected}
 use Rattle.packet.specs.declared.Message.{Message}
 use Rattle.packet.specs.declared.Message.the-variants.{ReceiveRequest, ReceiveResponse, EndRequest, EndResponse, TransmissionEnd, TransmissionEndResponse, Ack}
-use Rattle.packet.specs.Kind.{Row, Kind, indicator, kinds, numbersOf, mayHave, isResult, grants}
-use Rattle.packet.specs.Reading.{Outcome}
+use Rattle.kinds.specs.Kind.{Row, Kind, indicator, kinds, numbersOf, mayHave, isResult, grants}
+use Rattle.kinds.specs.Reading.{Outcome}
 use Rattle.packet.specs.Message.{indicatorSaid, messageSaid}
 use Rattle.packet.specs.Meaning.{Value, Meaning, valueIn, meaning}
 use Rattle.plan.specs.Packet.{within, holds, isNothing, takes, takesAll, isOne, writable, packetAs, kindWith, packetOf, packetFor}

@@ -24,7 +24,7 @@ use Rattle.packet.specs.declared.Verdict.the-variants.{Granted, Rejected}
 use Rattle.packet.specs.declared.Message.{Message}
 use Rattle.packet.specs.declared.Message.the-variants.{ReceiveRequest, ReceiveResponse, EndRequest, EndResponse, TransmissionEnd, TransmissionEndResponse, Ack}
 use Rattle.packet.specs.Claims.{nameRight}
-use Rattle.packet.specs.Kind.{Row, Kind, user, indicator, kinds, mayLack, mayHave, isResult, grants, numbersOf}
+use Rattle.kinds.specs.Kind.{Row, Kind, user, indicator, kinds, mayLack, mayHave, isResult, grants, numbersOf}
 use Rattle.packet.specs.Message.{nameSaid, indicatorSaid, messageSaid}
 use Rattle.plan.specs.declared.Part.{Part}
 use Rattle.plan.specs.declared.Part.the-variants.{Absent as NoPart, Named}

@@ -12,7 +12,7 @@ use borrow.Author.Tests.{le-ltb, lt-leb, ne-eqb}
 use Rattle.octets.specs.Choice.{pick, every}
 use Rattle.octets.proofs.Choice.{T-true, T-false, pick-cases, same-eq, NoneFrom, none-from}
 use Rattle.octets.proofs.Lists.{listed-drop}
-use Rattle.packet.specs.Judge.{Held, absent, given, named}
+use Rattle.kinds.specs.Judge.{Held, absent, given, named}
 use Rattle.packet.specs.Row.{noNumber, flag, columns, heldIn, withHeld, withAll, messageRow, numbersSay, messageIn}
 use Rattle.plan.specs.declared.standing.Span.{Span}
 use Rattle.plan.specs.Inner.{span, spanFor, standsAt, isMessageRow, numberFrom, indicatorFits, causeFits, fitsAt, numbersFit}

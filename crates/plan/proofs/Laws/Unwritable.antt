@@ -10,11 +10,11 @@ use lib.ListN.{getD}
 use lib.Dec.{eqb, ltb, eqb→eq}
 use borrow.Author.Tests.{le-ltb, lt-leb, ltb-false, ne-eqb, eqb-false}
 use Rattle.octets.proofs.Choice.{T-true, false-T, pick-cases}
-use Rattle.packet.specs.declared.kind.Form.{Form}
-use Rattle.packet.specs.declared.kind.Form.the-variants.{Number, Cause, Result, MessageType}
-use Rattle.packet.specs.Judge.{Held, absent, given}
-use Rattle.packet.specs.Kind.{Row, always, unlessGranted, kinds, mayLack, mayHave, isResult, grants, row, indicator}
-use Rattle.packet.specs.Reading.{reads, refused}
+use Rattle.kinds.specs.declared.kind.Form.{Form}
+use Rattle.kinds.specs.declared.kind.Form.the-variants.{Number, Cause, Result, MessageType}
+use Rattle.kinds.specs.Judge.{Held, absent, given}
+use Rattle.kinds.specs.Kind.{Row, always, unlessGranted, kinds, mayLack, mayHave, isResult, grants, row, indicator}
+use Rattle.kinds.specs.Reading.{reads, refused}
 use Rattle.packet.specs.Row.{noNumber, columns, heldIn, numbersSay, messageIn}
 use Rattle.packet.specs.Meaning.{numeral, valueIn, meaning}
 use Rattle.plan.specs.Packet.{holds, isNothing, takes, takesAll, isOne, writable, kindWith, packetOf, packetFor}

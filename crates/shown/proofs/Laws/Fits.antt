@@ -16,10 +16,10 @@ use Rattle.octets.proofs.Text.{length-decimal-le}
 use Rattle.fields.specs.Header.{firstField, word, sizeRight, headRight, ackAsked}
 use Rattle.fields.specs.Walk.{fieldsOf, whole}
 use Rattle.fields.specs.Claims.{Headed}
-use Rattle.packet.specs.declared.Numbers.{Numbers}
-use Rattle.packet.specs.Kind.{Kind, kindOf}
-use Rattle.packet.specs.Judge.{filledIn, faultOf, heldBy}
-use Rattle.packet.specs.Reading.{Outcome, refused, check, slotsIn, messageOf, readAs, readBy}
+use Rattle.kinds.specs.declared.Numbers.{Numbers}
+use Rattle.kinds.specs.Kind.{Kind, kindOf}
+use Rattle.kinds.specs.Judge.{filledIn, faultOf, heldBy}
+use Rattle.kinds.specs.Reading.{Outcome, refused, check, slotsIn, messageOf, readAs, readBy}
 use Rattle.packet.proofs.Laws.Accepts.{readBy-is, accepts-exactly}
 use Rattle.hex.specs.Line.{mostDigits, lineRight, packetIn}
 use Rattle.shown.specs.Line.{numberLine, textOf, lineAs, lineBy, sheetLine, lineRoom, fitting}

@@ -5,8 +5,8 @@ use mathlib.Core.List.{List}
 use mathlib.Core.Option.{Option, none, some}
 use Rattle.octets.proofs.Choice.{T-true}
 use Rattle.sheet.specs.Value.{validAlone}
-use Rattle.packet.specs.Kind.{numbersOf}
-use Rattle.packet.specs.Reading.{Outcome, readOf, readBy}
+use Rattle.kinds.specs.Kind.{numbersOf}
+use Rattle.kinds.specs.Reading.{Outcome, readOf, readBy}
 use Rattle.hex.specs.Line.{packetIn}
 use Rattle.shown.specs.Line.{lineAs, lineOf, lineBy}
 use Rattle.shown.specs.Claims.{UnderASheet}

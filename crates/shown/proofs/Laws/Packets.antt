@@ -10,8 +10,8 @@ use lib.Seq.{length-take-le}
 use Rattle.octets.specs.Buffer.{padded}
 use Rattle.octets.proofs.Buffer.{take-padded}
 use Rattle.fields.specs.Header.{sizeRight}
-use Rattle.packet.specs.declared.Numbers.{Numbers}
-use Rattle.packet.specs.Reading.{readBy}
+use Rattle.kinds.specs.declared.Numbers.{Numbers}
+use Rattle.kinds.specs.Reading.{readBy}
 use Rattle.hex.specs.declared.Packet.{Packet}
 use Rattle.hex.specs.Line.{packetIn, packetAs, mostOctets}
 use Rattle.shown.specs.Line.{textOf, lineAs, lineBy}

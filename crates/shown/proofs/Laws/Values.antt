@@ -13,8 +13,8 @@ use Rattle.octets.proofs.Buffer.{putAt-nil, put-both}
 use Rattle.sheet_text.specs.Line.{lf}
 use Rattle.packet.specs.declared.Message.{Message}
 use Rattle.packet.specs.declared.Message.the-variants.{ReceiveRequest, ReceiveResponse, EndRequest, EndResponse, TransmissionEnd, TransmissionEndResponse, Ack}
-use Rattle.packet.specs.Judge.{Held}
-use Rattle.packet.specs.Reading.{reads}
+use Rattle.kinds.specs.Judge.{Held}
+use Rattle.kinds.specs.Reading.{reads}
 use Rattle.packet.specs.Message.{messageSaid}
 use Rattle.shown.specs.declared.values.Form.the-variants.{Absent}
 use Rattle.shown.specs.declared.values.Value.{Value}

@@ -18,12 +18,12 @@ use Rattle.sheet.proofs.Laws.Entries.{userId-short}
 use Rattle.fields.specs.declared.field.Field.{Field}
 use Rattle.fields.specs.Header.{ssrcIn}
 use Rattle.fields.specs.Walk.{valueOf}
-use Rattle.packet.specs.declared.Numbers.{Numbers}
-use Rattle.packet.specs.declared.kind.Form.{Form}
-use Rattle.packet.specs.declared.kind.Form.the-variants.{UserId, Number, Cause, Result, MessageType, Barred}
-use Rattle.packet.specs.Kind.{Row, Kind, kinds, hasKind, kindOf}
-use Rattle.packet.specs.Judge.{Held, numberAt, fits, heldIn}
-use Rattle.packet.specs.Reading.{reads}
+use Rattle.kinds.specs.declared.Numbers.{Numbers}
+use Rattle.kinds.specs.declared.kind.Form.{Form}
+use Rattle.kinds.specs.declared.kind.Form.the-variants.{UserId, Number, Cause, Result, MessageType, Barred}
+use Rattle.kinds.specs.Kind.{Row, Kind, kinds, hasKind, kindOf}
+use Rattle.kinds.specs.Judge.{Held, numberAt, fits, heldIn}
+use Rattle.kinds.specs.Reading.{reads}
 use Rattle.packet.specs.Claims.{Allows, AllowsAll}
 use Rattle.shown.specs.Line.{fieldNames, namesOf, under, tenOf, valueText, labels, labelled, textOf}
 use Rattle.shown.specs.Claims.{mostText}

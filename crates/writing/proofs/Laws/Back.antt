@@ -28,11 +28,11 @@ use Rattle.fields.specs.Layout.{Content, laid, laidAll, idRight, idsRight, cont
 use Rattle.fields.specs.Claims.{Headed}
 use Rattle.fields.proofs.Laws.Walk.{right-end, right-inside, fieldsFrom-right, fieldsFrom-wrong}
 use Rattle.fields.proofs.Laws.Layouts.{length-laid, laid-id, laid-len, laid-content, laid-rest, laid-right, whole-exactly}
-use Rattle.packet.specs.declared.kind.Form.{Form}
-use Rattle.packet.specs.declared.kind.Form.the-variants.{UserId, Number, Cause, Result, MessageType, Barred}
-use Rattle.packet.specs.Kind.{Row, Kind, kindOf, numbersOf, mayLack, mayHave, grants}
-use Rattle.packet.specs.Judge.{Held, absent, numberAt, fits, heldIn, fieldsWith}
-use Rattle.packet.specs.Reading.{reads, readBy, readOf}
+use Rattle.kinds.specs.declared.kind.Form.{Form}
+use Rattle.kinds.specs.declared.kind.Form.the-variants.{UserId, Number, Cause, Result, MessageType, Barred}
+use Rattle.kinds.specs.Kind.{Row, Kind, kindOf, numbersOf, mayLack, mayHave, grants}
+use Rattle.kinds.specs.Judge.{Held, absent, numberAt, fits, heldIn, fieldsWith}
+use Rattle.kinds.specs.Reading.{reads, readBy, readOf}
 use Rattle.packet.specs.Claims.{useful, present, AllowsAll, isOne as isOneHeld}
 use Rattle.packet.proofs.Laws.Allowed.{uses}
 use Rattle.packet.proofs.Laws.Accepts.{accepts-exactly}

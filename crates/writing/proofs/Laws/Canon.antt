@@ -26,10 +26,10 @@ use Rattle.fields.specs.Layout.{Content, laidAll, contentOf, contentsOf}
 use Rattle.fields.proofs.Laws.Walk.{right-padding, every-field}
 use Rattle.fields.proofs.Laws.Fields.{coded, coded-says, every-coded}
 use Rattle.fields.proofs.Laws.Layouts.{laid-once, walk-meets}
-use Rattle.packet.specs.declared.kind.Form.{Form}
-use Rattle.packet.specs.declared.kind.Form.the-variants.{UserId, Number, Cause, Result, MessageType, Barred}
-use Rattle.packet.specs.Kind.{Row, numbersOf, mayLack, grants}
-use Rattle.packet.specs.Judge.{Held, absent, numberAt, fits, heldIn, fieldsWith}
+use Rattle.kinds.specs.declared.kind.Form.{Form}
+use Rattle.kinds.specs.declared.kind.Form.the-variants.{UserId, Number, Cause, Result, MessageType, Barred}
+use Rattle.kinds.specs.Kind.{Row, numbersOf, mayLack, grants}
+use Rattle.kinds.specs.Judge.{Held, absent, numberAt, fits, heldIn, fieldsWith}
 use Rattle.packet.specs.Claims.{present, Allows, AllowsAll, isOne}
 use Rattle.packet.proofs.Laws.Allowed.{uses, orderly, orderly-rest, arranged-used, allowed-ind, orderly-lack, first-allowed}
 use Rattle.packet.specs.Meaning.{Value, valueIn, Meaning, numberHeld}

@@ -11,8 +11,8 @@ use borrow.Author.Tests.{le-leb}
 use Rattle.octets.proofs.Choice.{T-true, pick-cases}
 use Rattle.sheet.specs.declared.Sheet.{Sheet}
 use Rattle.sheet.specs.Value.{validAlone}
-use Rattle.packet.specs.Kind.{numbersOf}
-use Rattle.packet.specs.Reading.{Outcome, readOf}
+use Rattle.kinds.specs.Kind.{numbersOf}
+use Rattle.kinds.specs.Reading.{Outcome, readOf}
 use Rattle.packet.specs.Meaning.{Meaning, meaning}
 use Rattle.plan.specs.Packet.{packetAs, packetOf, packetFor}
 use Rattle.writing.specs.Writing.{Made, made, refused, roomFor, writeOf}

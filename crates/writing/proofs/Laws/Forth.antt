@@ -16,13 +16,13 @@ use Rattle.fields.specs.declared.field.Field.{Field}
 use Rattle.fields.specs.Header.{sizeRight, headRight, ackAsked, ssrcIn}
 use Rattle.fields.specs.Walk.{fieldsOf, whole}
 use Rattle.fields.specs.Claims.{Headed}
-use Rattle.packet.specs.declared.kind.Form.{Form}
-use Rattle.packet.specs.declared.kind.Form.the-variants.{UserId, Number, Cause, Result, MessageType, Barred}
-use Rattle.packet.specs.declared.Numbers.{Numbers}
-use Rattle.packet.specs.declared.kind.Slot.{Slot}
-use Rattle.packet.specs.Kind.{Row, Kind, kindOf, numbersOf, mayHave, grants}
-use Rattle.packet.specs.Judge.{Held, fits, numberAt, heldIn, filledIn, faultOf, heldBy}
-use Rattle.packet.specs.Reading.{Outcome, reads, check, slotsIn, messageOf, readAs, readBy, readOf}
+use Rattle.kinds.specs.declared.kind.Form.{Form}
+use Rattle.kinds.specs.declared.kind.Form.the-variants.{UserId, Number, Cause, Result, MessageType, Barred}
+use Rattle.kinds.specs.declared.Numbers.{Numbers}
+use Rattle.kinds.specs.declared.kind.Slot.{Slot}
+use Rattle.kinds.specs.Kind.{Row, Kind, kindOf, numbersOf, mayHave, grants}
+use Rattle.kinds.specs.Judge.{Held, fits, numberAt, heldIn, filledIn, faultOf, heldBy}
+use Rattle.kinds.specs.Reading.{Outcome, reads, check, slotsIn, messageOf, readAs, readBy, readOf}
 use Rattle.packet.specs.Claims.{nameRight, useful, Arranged, present, Allows, AllowsAll, isOne}
 use Rattle.packet.proofs.Laws.Accepts.{readBy-is, accepts-exactly}
 use Rattle.packet.proofs.Laws.NamesInside.{names-right}

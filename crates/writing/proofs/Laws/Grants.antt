@@ -6,8 +6,8 @@ use Prim.Native.Nat.{ℕ, _+_}
 use lib.ListN.{length, take, drop}
 use lib.Dec.{leb}
 use Rattle.octets.proofs.Choice.{pick-cases}
-use Rattle.packet.specs.Kind.{Row, grants}
-use Rattle.packet.specs.Judge.{Held, absent, given, named}
+use Rattle.kinds.specs.Kind.{Row, grants}
+use Rattle.kinds.specs.Judge.{Held, absent, given, named}
 use Rattle.packet.specs.Claims.{isOne}
 use Rattle.packet.specs.Meaning.{Value, spelt, nowhere, valueIn}
 use Rattle.plan.specs.Packet.{isOne as isOneMeant}

@@ -18,8 +18,8 @@ use Rattle.sheet.specs.Value as value
 use Rattle.sheet.specs.Value.{validAlone}
 use Rattle.sheet.proofs.Laws.Bounds.{valid-within, valid-apart}
 use Rattle.fields.specs.Header.{lettersIn, numberIn}
-use Rattle.packet.specs.declared.Numbers.{Numbers}
-use Rattle.packet.specs.Kind.{Row, Kind, kinds, hasKind, kindOf, numbersOf}
+use Rattle.kinds.specs.declared.Numbers.{Numbers}
+use Rattle.kinds.specs.Kind.{Row, Kind, kinds, hasKind, kindOf, numbersOf}
 use Rattle.packet.proofs.Laws.Allowed.{uses}
 use Rattle.plan.specs.Packet.{kindWith}
 use Rattle.plan.proofs.Laws.Fitting.{small, valid-fits}

@@ -5,8 +5,8 @@ use denote.Ref.{now}
 use borrow.Author.Needs.{needs}
 use Rattle.sheet.specs.Value.{sheetFrom}
 use Rattle.sheet.proofs.Laws.Values.{sheetIn-counted}
-use Rattle.packet.specs.Kind.{numbersOf}
-use Rattle.packet.specs.Reading.{readBy}
+use Rattle.kinds.specs.Kind.{numbersOf}
+use Rattle.kinds.specs.Reading.{readBy}
 use Rattle.packet.specs.Asked.{asksOf, askedSaid}
 use Rattle.incoming.proofs.Laws.Heard.{name-spelt, asked-right, asked-event}
 use Rattle.incoming.proofs.event.event_in.Statement.{statement}

@@ -3,8 +3,8 @@ use borrow.Author.Needs.{needs}
 use borrow.Author.Tests.{ne-eqb}
 use native.Mathlib.Omega.{arith}
 use Rattle.packet.specs.Asked.{asksOf}
-use Rattle.packet.specs.Inner.{valuesFrom}
-use Rattle.packet.proofs.Laws.Places.{place-inside}
+use Rattle.kinds.specs.Inner.{valuesFrom}
+use Rattle.kinds.proofs.Laws.Places.{place-inside}
 use Rattle.packet.proofs.values.asked_of.Statement.{statement}
 use Rattle.packet.proofs.values.asked_of.Tie as tie
 

@@ -2,7 +2,7 @@
 -- Assumes nothing.
 use borrow.Author.Needs.{needs}
 use borrow.Author.Tests.{eq-eqb, ne-eqb}
-use Rattle.packet.specs.Inner.{numberFrom}
+use Rattle.kinds.specs.Inner.{numberFrom}
 use Rattle.packet.proofs.values.indicator_at.Statement.{statement}
 use Rattle.packet.proofs.values.indicator_at.Tie as tie
 

@@ -4,9 +4,9 @@ use Prim.Native.Nat.{_+_, _≤_}
 use borrow.Author.Needs.{needs}
 use native.Mathlib.Omega.{arith}
 use lib.ListN.{length, getD}
-use Rattle.packet.specs.Inner.{valuesFrom, numberFrom}
-use Rattle.packet.proofs.Laws.Kinds.{seventh}
-use Rattle.packet.proofs.Laws.Places.{place-inside}
+use Rattle.kinds.specs.Inner.{valuesFrom, numberFrom}
+use Rattle.kinds.proofs.Laws.Kinds.{seventh}
+use Rattle.kinds.proofs.Laws.Places.{place-inside}
 use Rattle.packet.proofs.values.message_of.Statement.{statement}
 use Rattle.packet.proofs.values.message_of.Tie as tie
 

@@ -3,7 +3,7 @@
 use mathlib.Core.Path.{sym, _∙_}
 use borrow.Author.Needs.{needs}
 use borrow.Author.Tests.{eq-eqb, ne-eqb}
-use Rattle.packet.specs.Inner.{numberFrom}
+use Rattle.kinds.specs.Inner.{numberFrom}
 use Rattle.packet.proofs.values.verdict_at.Statement.{statement}
 use Rattle.packet.proofs.values.verdict_at.Tie as tie
 

@@ -1,0 +1,10 @@
+pub mod Kinds
+pub mod Judging
+pub mod Sound
+pub mod Unused
+pub mod Slots
+pub mod Places
+pub mod Judged
+pub mod Values
+pub mod Reading
+pub mod Found
