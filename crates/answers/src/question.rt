@@ -5,8 +5,8 @@ use super::number::part;
 use super::reply::Reply;
 use super::step;
 use super::value;
-use sheet::Found;
-use sheet::Senders;
+use seats::Found;
+use seats::Senders;
 use sheet::Sheet;
 ghost use Prim.Native.Nat.{_≤_};
 
@@ -30,7 +30,7 @@ pub fn read(text: &[u8]) -> Reply {
 // 2: whether some sheet reads to a value's numbers; and to the whole value.
 pub fn valid(body: &[u8]) -> Reply {
     let sheet = value::sheet_in(body);
-    let whole = sheet::valid_with(sheet, &value::users_in(body));
+    let whole = seats::valid_with(sheet, &value::users_in(body));
     Reply::empty()
         .octet(sheet::valid(sheet) as u8)
         .octet(whole as u8)
@@ -45,7 +45,7 @@ pub fn by_ssrc(body: &[u8]) -> Reply {
         ssrcs,
     };
     let ssrc = octets::u32_at(body, value::LENGTH);
-    seat(sheet::find::by_ssrc(senders, ssrc))
+    seat(seats::find::by_ssrc(senders, ssrc))
 }
 
 // 4: whose User ID it is that follows a value.
@@ -56,12 +56,12 @@ pub fn by_user(body: &[u8]) -> Reply {
     let sheet = value::sheet_in(body);
     let users = value::users_in(body);
     let name = part(body, value::LENGTH, body.len());
-    seat(sheet::find::by_user(sheet.seats, &users, name))
+    seat(seats::find::by_user(sheet.seats, &users, name))
 }
 
 // 5: whether a body can be a User ID.
 pub fn is_user_id(body: &[u8]) -> Reply {
-    Reply::empty().octet(sheet::user::is_user_id(body) as u8)
+    Reply::empty().octet(seats::user::is_user_id(body) as u8)
 }
 
 // 6: what each packet reads to under the numbers of a value. The packets stand behind those, each behind its count, two octets.

@@ -8,7 +8,7 @@ use lib.ListN.{getD}
 use lib.Dec.{eqb}
 use Rattle.octets.specs.Choice.{pick, same}
 use Rattle.sheet.specs.declared.Sheet.{Sheet}
-use Rattle.sheet.specs.declared.Senders.{Senders}
+use Rattle.seats.specs.declared.Senders.{Senders}
 use Rattle.sheet.specs.Value.{validWith}
 use Rattle.sheet.specs.Find.{userOf, seatOfSsrc, seatOfUser}
 use Rattle.kinds.specs.Reading.{Outcome, reads, refused, readOf}

@@ -2,10 +2,10 @@
 mod event;
 
 use reception::Event;
+use seats::are_valid_with;
 use sheet::Refusal;
 use sheet::Sheet;
 use sheet::Users;
-use sheet::numbers::are_valid_with;
 use sheet::numbers::numbers_of;
 ghost use mathlib.Core.Path.{_≡_};
 ghost use Rattle.sheet.specs.Value.{sheetIn};

@@ -5,7 +5,7 @@ use super::kind::SLOTS;
 use super::kind::Slots;
 use fields::codes::FIRST_FIELD;
 use fields::walk::size_of;
-use sheet::user::is_user_id;
+use seats::user::is_user_id;
 ghost use mathlib.Core.Path.{_≡_};
 ghost use mathlib.Core.Bool.{_&&_};
 ghost use lib.Dec.{T, eqb};

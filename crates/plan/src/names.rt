@@ -2,7 +2,7 @@
 use packet::row::KIND;
 use packet::row::NAMED;
 use packet::row::USER;
-use sheet::user::is_user_id;
+use seats::user::is_user_id;
 ghost use mathlib.Core.Path.{_≡_};
 ghost use Prim.Native.Nat.{_+_, _<_};
 ghost use lib.ListN.{length};

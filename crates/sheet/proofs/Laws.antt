@@ -10,4 +10,3 @@ pub mod Values
 pub mod Bounds
 pub mod Lines
 pub mod Seats
-pub mod Filled

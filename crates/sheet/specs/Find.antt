@@ -8,15 +8,8 @@ use lib.ListN.{take, getD}
 use lib.Dec.{eqb}
 use Rattle.octets.specs.Choice.{same, first-place}
 use Rattle.sheet.specs.declared.Sheet.{Sheet}
-use Rattle.sheet.specs.declared.Found.{Found}
-use Rattle.sheet.specs.declared.Found.the-variants.{Seat, Nobody}
 use Rattle.sheet.specs.Judge.{userId}
 use Rattle.sheet.specs.Value.{nameOf}
-
--- what an answer says: the seat, or that there is none
-abbrev pub foundSaid : Found → Option ℕ
-foundSaid (Seat s) = some s
-foundSaid Nobody = none
 
 -- the first seat with this SSRC
 unfoldable pub seatOfSsrc : ℕ → List ℕ → ℕ → Option ℕ

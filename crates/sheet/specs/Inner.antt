@@ -6,7 +6,7 @@ use mathlib.Core.Bool.{Bool, false, not, _&&_}
 use mathlib.Core.List.{List, []}
 use lib.ListN.{length, getD, take}
 use lib.Dec.{leb, eqb}
-use Rattle.octets.specs.Choice.{pick, same, keep}
+use Rattle.octets.specs.Choice.{pick, same}
 use Rattle.sheet.specs.declared.table.Rule.{Rule}
 use Rattle.sheet.specs.Table.{rowAt}
 use Rattle.sheet.specs.Judge.{taken}
@@ -43,14 +43,6 @@ cap = 4294967296
 -- an octet of a name
 abbrev pub nonzero : ℕ → Bool
 nonzero c = not (eqb c 0)
-
--- how many such octets a row has
-abbrev pub filled : List ℕ → ℕ
-filled row = length (keep nonzero row)
-
--- no row before row s is the same
-abbrev pub NewRow : List (List ℕ) → ℕ → Type 0
-NewRow users s = (i : ℕ) → i < s → same (getD users i []) (getD users s []) ≡ false
 
 -- a row as it has to be under so many seats: a new name at fixed width, or none
 unfoldable pub goodRow : ℕ → List (List ℕ) → ℕ → Bool

@@ -1,14 +1,10 @@
-// The call sheet as a value (document 01, "Call sheet"): what each line may say, and whose SSRC and User ID it is.
-pub mod find;
+// The call sheet as a value (document 01, "Call sheet"): what each line may say.
 mod line;
 pub mod number;
 pub mod numbers;
-mod row;
-mod seat;
 mod table;
-pub mod user;
 
-ghost use Rattle.sheet.specs.Promises.{valid≡, valid-with≡};
+ghost use Rattle.sheet.specs.Promises.{valid≡};
 
 // The numbers of the sheet, in the order of its lines, and the SSRC of each seat; an unused one is 0.
 pub struct Sheet {
@@ -41,32 +37,10 @@ pub struct Refusal {
     pub at: u32,
 }
 
-// What a search by SSRC looks at.
-pub struct Senders {
-    pub seats: u32,
-    pub ssrcs: [u32; SEATS],
-}
-
-// The seat that was looked for, counted from 0.
-pub enum Found {
-    Seat(u8),
-    Nobody,
-}
-
 // Whether some sheet reads to this struct.
 pub fn valid(sheet: Sheet) -> bool
     ensures { λ r. ⌜ valid≡ sheet r ⌝ }
 {
     let numbers = numbers::numbers_of(sheet);
     numbers::are_valid(&numbers[..])
-}
-
-// Whether some sheet reads to this struct and these User IDs.
-pub fn valid_with(sheet: Sheet, users: &Users) -> bool
-    ensures { λ r. ⌜ valid-with≡ sheet (now (users .entry)) r ⌝ }
-{
-    if !valid(sheet) {
-        return false;
-    }
-    seat::are_good_rows(users, sheet.seats)
 }

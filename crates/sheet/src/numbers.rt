@@ -2,11 +2,9 @@
 // that is given the struct lays them out once.
 use super::SEATS;
 use super::Sheet;
-use super::Users;
 use super::line::are_apart;
 use super::line::are_within;
-use super::seat::are_good_rows;
-ghost use Rattle.sheet.specs.Promises.{numbers-of≡, are-valid≡, are-valid-with≡};
+ghost use Rattle.sheet.specs.Promises.{numbers-of≡, are-valid≡};
 
 // How many lines have a number alone. The lines of the seats, with the SSRCs, stand behind theirs.
 pub const NUMBER_LINES: usize = 11;
@@ -60,16 +58,6 @@ pub fn are_valid(numbers: &[u32]) -> bool
         return false;
     }
     are_apart(&numbers[..], lines, NUMBER_LINES, LINES)
-}
-
-// Whether they are valid and some sheet reads to the struct with them and to these User IDs.
-pub fn are_valid_with(numbers: &[u32], users: &Users) -> bool
-    ensures { λ r. ⌜ are-valid-with≡ (now (numbers .entry)) (now (users .entry)) r ⌝ }
-{
-    if !are_valid(&numbers[..]) {
-        return false;
-    }
-    are_good_rows(users, numbers[SEATS_LINE])
 }
 
 // The numbers of a sheet.

@@ -2,8 +2,8 @@
 use super::key::KEYS;
 use super::key::Key;
 use super::key::key_of;
+use seats::user::visible_end;
 use sheet::numbers::NUMBER_LINES;
-use sheet::user::visible_end;
 ghost use mathlib.Core.Path.{_≡_};
 ghost use mathlib.Core.List.{[], _∷_};
 ghost use Prim.Native.Nat.{_+_, _-_, _<_, _≤_, min};

@@ -2,10 +2,10 @@
 use super::Reading;
 use super::line::Line;
 use super::line::line_at;
+use seats::find::is_new_name;
 use sheet::Refusal;
 use sheet::Sheet;
 use sheet::Users;
-use sheet::find::is_new_name;
 use sheet::number::is_good_number;
 use sheet::numbers::LINES;
 use sheet::numbers::NUMBER_LINES;

@@ -8,7 +8,7 @@ use native.Mathlib.Omega.{arith}
 use lib.Dec.{eqb}
 use Rattle.octets.specs.Choice.{pick, same}
 use Rattle.sheet.specs.declared.Sheet.{Sheet}
-use Rattle.sheet.specs.declared.Senders.{Senders}
+use Rattle.seats.specs.declared.Senders.{Senders}
 use Rattle.sheet.specs.Value.{validAlone, validWith}
 use Rattle.sheet.specs.Find.{seatOfSsrc, seatOfUser}
 use Rattle.fields.specs.Header.{sizeRight, headRight}

@@ -7,11 +7,12 @@ use native.Mathlib.Omega.{arith}
 use lib.ListN.{length, take, length-take}
 use lib.Dec.{eqb}
 use Rattle.octets.proofs.Choice.{some-first-place}
-use Rattle.sheet.specs.declared.Senders.{Senders}
-use Rattle.sheet.specs.declared.Found.{Found}
-use Rattle.sheet.specs.declared.Found.the-variants.{Seat, Nobody}
-use Rattle.sheet.specs.Find.{foundSaid, seatOfSsrc}
-use Rattle.sheet.specs.Promises.{by-ssrc≡, by-user≡}
+use Rattle.seats.specs.declared.Senders.{Senders}
+use Rattle.seats.specs.declared.Found.{Found}
+use Rattle.seats.specs.declared.Found.the-variants.{Seat, Nobody}
+use Rattle.sheet.specs.Find.{seatOfSsrc}
+use Rattle.seats.specs.Found.{foundSaid}
+use Rattle.seats.specs.Promises.{by-ssrc≡, by-user≡}
 use Rattle.streams.specs.declared.Event.{Event}
 use Rattle.streams.specs.declared.What.{What}
 use Rattle.reception.specs.Steps.{Said, gives, refuses}

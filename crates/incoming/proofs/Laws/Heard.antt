@@ -9,7 +9,7 @@ use borrow.Author.Tests.{le-leb}
 use Rattle.octets.specs.Choice.{pick}
 use Rattle.octets.proofs.Choice.{T-true, true-T, T-and-left, every-getD-or}
 use Rattle.sheet.specs.declared.Sheet.{Sheet}
-use Rattle.sheet.specs.declared.Senders.{Senders}
+use Rattle.seats.specs.declared.Senders.{Senders}
 use Rattle.sheet.specs.Judge.{userId}
 use Rattle.sheet.specs.Value.{validAlone, validWith}
 use Rattle.sheet.proofs.Laws.Seats.{valid-alone}

@@ -2,7 +2,7 @@
 use native.Mathlib.Nat.{add-sub-cancel-left}
 use denote.Ref.{now}
 use borrow.Author.Needs.{needs}
-use Rattle.sheet.specs.Promises.{by-user≡}
+use Rattle.seats.specs.Promises.{by-user≡}
 use Rattle.incoming.specs.Inner.{octetsAt}
 use Rattle.incoming.proofs.Laws.Found.{stream-found, stream-unknown}
 use Rattle.incoming.proofs.Laws.Heard.{name-ends}

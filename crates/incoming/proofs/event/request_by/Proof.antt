@@ -7,7 +7,7 @@ use lib.ListN.{getD}
 use denote.Ref.{now}
 use borrow.Author.Needs.{needs}
 use borrow.Author.Tests.{not-true, not-false}
-use Rattle.sheet.specs.Promises.{has-name≡}
+use Rattle.seats.specs.Promises.{has-name≡}
 use Rattle.incoming.specs.Event.{requestBy}
 use Rattle.incoming.specs.Inner.{octetsAt}
 use Rattle.incoming.proofs.Laws.Heard.{name-ends}
