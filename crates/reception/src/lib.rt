@@ -160,10 +160,7 @@ fn attempt_on(rules: Rules, seen: Record, event: Event) -> Worked
 {
     let stream = event.stream;
     let what = event.what;
-    if !table::is_sender_on(rules, what) {
-        return Worked::Refused(refusal(9));
-    }
-    if !stream::is_legal(rules, stream, seen) {
+    if !(table::is_sender_on(rules, what) & stream::is_legal(rules, stream, seen)) {
         return Worked::Refused(refusal(9));
     }
     let change = table::change_of(rules, stream, seen, what);
@@ -203,10 +200,7 @@ fn settle(rules: Rules, attempt: Attempt, own: Record) -> Taking
     let seen = attempt.seen;
     let wanted = attempt.wanted;
     let answer = attempt.answer;
-    if !stream::is_legal(rules, stream, seen) {
-        return Taking::Refused(refusal(9));
-    }
-    if !stream::is_legal(rules, stream, wanted) {
+    if !(stream::is_legal(rules, stream, seen) & stream::is_legal(rules, stream, wanted)) {
         return Taking::Refused(refusal(9));
     }
     if !stream::is_same(own, seen) {
