@@ -12,7 +12,7 @@ use Rattle.octets.specs.Text.{ascii}
 use Rattle.octets.specs.Hex.{hexOctets}
 use Rattle.sheet.specs.declared.Sheet.{Sheet}
 use Rattle.sheet_text.specs.Reading as sheet
-use Rattle.sheet_text.specs.Line.{lf}
+use Rattle.sheet_line.specs.Line.{lf}
 use Rattle.kinds.specs.Reading as packet
 use Rattle.packet.specs.Meaning.{Value, nothing, numeral, spelt, Meaning, meaning}
 use Rattle.writing.specs.Writing.{made, writeOf}

@@ -6,8 +6,8 @@ mod kind;
 
 ghost use mathlib.Core.Path.{_≡_};
 ghost use Prim.Native.Nat.{_<_};
-ghost use Rattle.kinds.specs.Reading.{readAs, readBy};
-ghost use Rattle.kinds.specs.Found.{kindNumbered, noneFound, foundIn};
+ghost use Rattle.kinds.specs.Reading.{readAs};
+ghost use Rattle.kinds.specs.Found.{kindNumbered, noneFound};
 ghost use Rattle.kinds.specs.Inner.{Walked, FoundIs};
 ghost use Rattle.kinds.specs.Promises.{found-by≡};
 

@@ -6,7 +6,8 @@ use mathlib.Core.List.{List, [], _∷_, _++_, map, flatten}
 use lib.ListN.{length, take}
 use lib.Dec.{T}
 use Rattle.octets.specs.Choice.{every}
-use Rattle.sheet_text.specs.Line.{lf, longest}
+use Rattle.sheet_line.specs.Line.{lf}
+use Rattle.sheet_text.specs.Text.{longest}
 use Rattle.sheet_text.specs.Reading.{noRefusal}
 use Rattle.shown.specs.declared.Printing.{Printing}
 use Rattle.shown.specs.declared.Printing.the-variants.{Printed}

@@ -5,7 +5,7 @@ use mathlib.Core.Bool.{Bool, not}
 use mathlib.Core.List.{List, [], _∷_}
 use lib.Dec.{eqb}
 use Rattle.octets.specs.Choice.{pick}
-use Rattle.sheet_text.specs.Line.{lf}
+use Rattle.sheet_line.specs.Line.{lf}
 
 -- an octet before the first of the lines, or where there are none, of a line of its own
 unfoldable pub before : ℕ → List (List ℕ) → List (List ℕ)

@@ -20,7 +20,7 @@ use sheet::numbers::are_valid;
 ghost use mathlib.Core.Path.{_≡_};
 ghost use Rattle.sheet.specs.Value.{sheetIn};
 ghost use Rattle.kinds.specs.Kind.{numbersOf};
-ghost use Rattle.kinds.specs.Reading.{refused, readBy};
+ghost use Rattle.kinds.specs.Reading.{refused};
 ghost use Rattle.packet.specs.Message.{readSaid};
 ghost use Rattle.packet.specs.Asked.{asksOf, askedSaid};
 ghost use Rattle.kinds.specs.Inner.{Sorted, readFrom};

@@ -1,6 +1,4 @@
-pub mod Keys
 pub mod Lines
-pub mod LineAt
 pub mod Readings
 pub mod Named
 pub mod Judgement

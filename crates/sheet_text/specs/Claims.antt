@@ -8,7 +8,7 @@ use lib.ListN.{length, take}
 use lib.Dec.{T}
 use Rattle.sheet.specs.declared.Sheet.{Sheet}
 use Rattle.sheet.specs.Value.{entriesOf, validWith}
-use Rattle.sheet_text.specs.Line.{longest, textOf}
+use Rattle.sheet_text.specs.Text.{longest, textOf}
 use Rattle.sheet_text.specs.Reading.{lines, noRefusal, badLine, readOf, usersIn}
 
 -- the text of a value, from the table

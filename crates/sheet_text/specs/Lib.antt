@@ -1,4 +1,4 @@
-pub mod Line
+pub mod Text
 pub mod Reading
 pub mod Inner
 pub mod Promises

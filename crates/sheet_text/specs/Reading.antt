@@ -11,7 +11,8 @@ use Rattle.sheet.specs.Table.{rowAt}
 use Rattle.sheet.specs.Judge.{Entry, numbersIn, good, whole}
 use Rattle.sheet.specs.Value.{sheetOf, usersOf}
 use Rattle.sheet_text.specs.declared.Reading.{Reading}
-use Rattle.sheet_text.specs.Line.{lf, lineOf, textOf, entryIn}
+use Rattle.sheet_line.specs.Line.{lf, lineOf, entryIn}
+use Rattle.sheet_text.specs.Text.{textOf}
 
 -- a sheet's entries, or the number of its first bad or missing line, from 1
 pub data Outcome : Type 0 where

@@ -1,6 +1,4 @@
 // The call sheet read from text (document 01, "Call sheet").
-mod key;
-mod line;
 mod scan;
 
 use sheet::Refusal;

@@ -1,7 +1,5 @@
 // The reader's one pass over a text: line after line, each judged against the lines before it (document 01, "Call sheet").
 use super::Reading;
-use super::line::Line;
-use super::line::line_at;
 use seats::find::is_new_name;
 use sheet::Refusal;
 use sheet::Sheet;
@@ -11,17 +9,18 @@ use sheet::numbers::LINES;
 use sheet::numbers::NUMBER_LINES;
 use sheet::numbers::Numbers;
 use sheet::numbers::SEATS_LINE;
+use sheet_line::Line;
+use sheet_line::line_at;
 ghost use mathlib.Core.Path.{_≡_};
 ghost use Prim.Native.Nat.{_<_, _≤_};
 ghost use mathlib.Core.List.{[]};
-ghost use lib.ListN.{length};
 ghost use Rattle.sheet.specs.Value.{sheetFrom, usersOf};
 ghost use Rattle.sheet_text.specs.Inner.{JudgedIs};
 ghost use Rattle.sheet_text.specs.Reading.{Outcome, readOf, readingOf, usersIn};
 
 // The line at a place as line k, judged against the numbers and the User IDs of the lines before it.
 fn judged(text: &[u8], at: usize, k: usize, numbers: &Numbers, users: &Users) -> Line
-    requires { ⌜ (k < 19) × (at ≤ length (now text)) ⌝ }
+    requires { ⌜ k < 19 ⌝ }
     ensures { λ r. ⌜ JudgedIs (now (text .entry)) at k (now (numbers .entry)) (now (users .entry)) r ⌝ }
 {
     let found = line_at(text, at, k);

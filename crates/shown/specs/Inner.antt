@@ -3,7 +3,7 @@
 use Prim.Native.Nat.{ℕ}
 use mathlib.Core.List.{List, [], _∷_, _++_, map}
 use lib.ListN.{getD, drop}
-use Rattle.sheet_text.specs.Line.{lf}
+use Rattle.sheet_line.specs.Line.{lf}
 use Rattle.kinds.specs.Judge.{Held, absent, given, named}
 use Rattle.kinds.specs.Reading.{Outcome, reads, refused}
 use Rattle.shown.specs.declared.values.Form.{Form}

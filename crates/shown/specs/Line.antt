@@ -10,7 +10,7 @@ use Rattle.octets.specs.Choice.{pick, same}
 use Rattle.octets.specs.Text.{ascii, decimal}
 use Rattle.hex.specs.Line.{packetIn}
 use Rattle.sheet.specs.declared.Sheet.{Sheet}
-use Rattle.sheet_text.specs.Line.{lf}
+use Rattle.sheet_line.specs.Line.{lf}
 use Rattle.kinds.specs.declared.Numbers.{Numbers}
 use Rattle.kinds.specs.Judge.{Held, absent, given, named}
 use Rattle.kinds.specs.Reading.{Outcome, reads, refused, readBy, readOf}

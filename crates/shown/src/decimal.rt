@@ -5,7 +5,7 @@ ghost use Prim.Native.Nat.{_+_, _≤_};
 ghost use mathlib.Core.List.{[], _∷_, _++_};
 ghost use lib.ListN.{length};
 ghost use Rattle.octets.specs.Text.{decimal};
-ghost use Rattle.sheet_text.specs.Line.{lf};
+ghost use Rattle.sheet_line.specs.Line.{lf};
 ghost use Rattle.shown.specs.Promises.{Put};
 
 // How many digits a number has.

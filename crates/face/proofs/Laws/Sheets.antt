@@ -21,7 +21,8 @@ use Rattle.sheet.proofs.Laws.Entries.{inTurn-snoc, length-numbersIn, numbersIn-
 use Rattle.sheet.proofs.Laws.Fresh.{seats-bound}
 use Rattle.sheet.proofs.Laws.Laid.{valid-good, valid-length}
 use Rattle.sheet_text.specs.declared.Reading.{Reading}
-use Rattle.sheet_text.specs.Line.{tailOf, widest, longest, textOf}
+use Rattle.sheet_line.specs.Line.{tailOf}
+use Rattle.sheet_text.specs.Text.{widest, longest, textOf}
 use Rattle.sheet_text.specs.Reading.{Outcome, reads, refused, goodLine, behind, readBy, outcome, readingOf, readOf, usersOver}
 use Rattle.sheet_text.proofs.Laws.Readings.{entryAt, goodLine-good, outcome-reads}
 use Rattle.sheet_text.proofs.Laws.Scanned.{users-read}

@@ -6,7 +6,7 @@ use native.Mathlib.Omega.{arith}
 use lib.ListN.{length, length-append}
 use lib.Dec.{eqb}
 use Rattle.octets.specs.Choice.{pick}
-use Rattle.sheet_text.specs.Line.{lf}
+use Rattle.sheet_line.specs.Line.{lf}
 use Rattle.kinds.specs.declared.Numbers.{Numbers}
 use Rattle.shown.specs.Line.{lineBy}
 use Rattle.shown.proofs.Laws.Fits.{line-fits}

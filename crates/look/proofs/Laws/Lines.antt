@@ -8,7 +8,7 @@ use lib.Dec.{T, eqb, eqb→eq}
 use borrow.Author.Tests.{not-true}
 use Rattle.octets.specs.Choice.{every}
 use Rattle.octets.proofs.Choice.{T-true, decide, T-and, T-and-left, T-and-right, every-both}
-use Rattle.sheet_text.specs.Line.{lf}
+use Rattle.sheet_line.specs.Line.{lf}
 use Rattle.look.specs.Lines.{inLine, before, linesOf}
 use Rattle.look.specs.Claims.{oneLine, withLfs, LinesExactly}
 use Rattle.look.specs.Steps.{endedFrom, leftFrom, lastOf}

@@ -13,7 +13,8 @@ use Rattle.octets.specs.Text.{decimal, decimalBy}
 use Rattle.octets.proofs.Choice.{T-true, decide, le-or-lt, pick-cases}
 use Rattle.octets.proofs.Buffer.{take-padded}
 use Rattle.sheet.specs.Table.{table, seatRow, mostSeats}
-use Rattle.sheet_text.specs.Line.{lf, tailOf, widest, longest, textOf}
+use Rattle.sheet_line.specs.Line.{lf, tailOf}
+use Rattle.sheet_text.specs.Text.{widest, longest, textOf}
 use Rattle.sheet_text.specs.Reading as sheet-reading
 use Rattle.sheet_text.proofs.Laws.Readings.{outcome-reads}
 use Rattle.sheet_text.proofs.Laws.Decides.{longest-decides}

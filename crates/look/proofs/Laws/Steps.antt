@@ -14,7 +14,7 @@ use Rattle.octets.specs.Choice.{every, front}
 use Rattle.octets.specs.Buffer.{putAt, padded}
 use Rattle.octets.proofs.Choice.{T-true, true-T, T-and-left, T-and-right, every-append, every-front, front-split, front-stop}
 use Rattle.octets.proofs.Buffer.{putAt-next, putAt-nil, put-both, putAt-zeros, length-putAt, length-padded}
-use Rattle.sheet_text.specs.Line.{lf}
+use Rattle.sheet_line.specs.Line.{lf}
 use Rattle.sheet_text.specs.Reading.{readOf}
 use Rattle.kinds.specs.Kind.{numbersOf}
 use Rattle.kinds.specs.declared.Numbers.{Numbers}

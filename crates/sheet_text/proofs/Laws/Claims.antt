@@ -16,7 +16,7 @@ use Rattle.sheet.specs.Value.{sheetOf, usersOf, entriesOf, validWith}
 use Rattle.sheet.proofs.Laws.Fresh.{completed}
 use Rattle.sheet.proofs.Laws.Laid.{valid-good, entriesOf-laid, laid-valid, valid-entries, sheetOf-entries, usersOf-entries}
 use Rattle.sheet_text.specs.declared.Reading.{Reading}
-use Rattle.sheet_text.specs.Line.{textFrom, textOf}
+use Rattle.sheet_text.specs.Text.{textFrom, textOf}
 use Rattle.sheet_text.specs.Reading.{Outcome, reads, refused, outcome, lines, noRefusal, badLine, readingOf, usersFrom, readOf, usersIn}
 use Rattle.sheet_text.specs.Claims.{valueText, ReadsTo, ReadsExactly, ValidExactly, SomeBegins, NoneReads, NamedExactly}
 use Rattle.sheet_text.proofs.Laws.Lines.{textFrom-append}

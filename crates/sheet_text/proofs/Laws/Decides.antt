@@ -18,10 +18,11 @@ use Rattle.sheet.specs.Table.{table, numberLines, mostSeats, rowAt}
 use Rattle.sheet.specs.Judge.{Entry, numbersIn, longestName, userId, goodName, good, inTurn, whole}
 use Rattle.sheet.proofs.Laws.Entries.{inTurn-snoc, length-numbersIn, length-namesIn, numbersIn-append, Open, open-more, not-whole, good-number, good-name, userId-short, good-numbers}
 use Rattle.sheet.proofs.Laws.Fresh.{number-bound, seats-bound}
-use Rattle.sheet_text.specs.Line.{lf, comma, tailOf, lineOf, widest, longest}
+use Rattle.sheet_line.specs.Line.{lf, comma, tailOf, lineOf}
+use Rattle.sheet_text.specs.Text.{widest, longest}
 use Rattle.sheet_text.specs.Reading.{Outcome, goodLine, behind, readBy, outcome, readingOf, usersFrom, readOf, usersIn}
 use Rattle.sheet_text.specs.Claims.{LongestDecides}
-use Rattle.sheet_text.proofs.Laws.Lines.{line-pos}
+use Rattle.sheet_line.proofs.Laws.LineAt.{line-pos}
 use Rattle.sheet_text.proofs.Laws.Readings.{entryAt, goodLine-good, goodLine-split, goodLine-line, readBy-whole, readBy-bad, readBy-good, length-behind, length-snoc, read-line}
 
 -- ---- the room for the lines that may follow

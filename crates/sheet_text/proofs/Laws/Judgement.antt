@@ -17,9 +17,10 @@ use Rattle.sheet.specs.Inner.{cap}
 use Rattle.sheet.proofs.Laws.Rules.{greatest-cap}
 use Rattle.sheet.proofs.Laws.Fresh.{number-bound}
 use Rattle.sheet.proofs.Laws.Numbers.{goodNumber-high}
-use Rattle.sheet_text.specs.declared.line.Line.the-variants.{Good, Bad}
-use Rattle.sheet_text.specs.Line.{lineOf, entryIn}
-use Rattle.sheet_text.specs.Inner.{LineIs, goodAt, JudgedIs}
+use Rattle.sheet_line.specs.declared.Line.the-variants.{Good, Bad}
+use Rattle.sheet_line.specs.Line.{lineOf, entryIn}
+use Rattle.sheet_line.specs.Inner.{LineIs}
+use Rattle.sheet_text.specs.Inner.{goodAt, JudgedIs}
 
 -- a number is good exactly if, as far as the cap, it is
 pub goodNumber-cap : (ns : List ℕ) (n : ℕ) → goodNumber ns (min n cap) ≡ goodNumber ns n

@@ -12,13 +12,14 @@ use borrow.Author.Tests.{ne-eqb}
 use Rattle.octets.specs.Choice.{pick, same, every, front}
 use Rattle.octets.specs.Text.{decimal, valueOf, digit}
 use Rattle.octets.proofs.Choice.{every-weaker, T-false, T-and, T-and-left, T-and-right, same-eq, front-append, every-append}
-use Rattle.octets.proofs.Text.{value-decimal, digits-decimal, digit-low, length-decimal-pos}
+use Rattle.octets.proofs.Text.{value-decimal, digits-decimal, digit-low}
 use Rattle.sheet.specs.Table.{Row, rowAt}
 use Rattle.sheet.specs.Judge.{Entry, visible}
 use Rattle.sheet.proofs.Laws.Entries.{shaped}
-use Rattle.sheet_text.specs.Line.{lf, comma, tailOf, lineOf, digitsAfter, nameAfter, entryIn, textFrom, textOf}
+use Rattle.sheet_line.specs.Line.{lf, comma, tailOf, lineOf, digitsAfter, nameAfter, entryIn}
+use Rattle.sheet_text.specs.Text.{textFrom, textOf}
 use Rattle.sheet_text.specs.Reading.{firstLine, lines}
-use Rattle.sheet_text.proofs.Laws.Keys.{plainOctet, key-plain}
+use Rattle.sheet_line.proofs.Laws.Keys.{plainOctet, key-plain}
 
 -- ---- the entry is read off its line
 
@@ -134,13 +135,6 @@ pub lines-line : (j k : ℕ) (e : Entry) (u : List ℕ) → T (shaped (rowAt k) 
     → lines (suc j) (lineOf (rowAt k) e ++ u) ≡ lineOf (rowAt k) e ∷ lines j u
 unfolding lines
 lines-line j k e u t = rw (firstLine-line k e u t, drop-append-seam (lineOf (rowAt k) e) u)
-
--- a line is not empty
-pub line-pos : (r : Row) (e : Entry) → 1 ≤ length (lineOf r e)
-unfolding lineOf
-line-pos r e =
-    let p : 1 ≤ length (decimal (e .number)) = length-decimal-pos (e .number) in
-    simp length-append (omega arith)
 
 -- ---- the text of several lines
 

@@ -12,9 +12,11 @@ use Rattle.octets.proofs.Choice.{T-true, decide, T-and-left, T-and-right}
 use Rattle.sheet.specs.Table.{rowAt}
 use Rattle.sheet.specs.Judge.{Entry, numbersIn, good, inTurn, whole}
 use Rattle.sheet.proofs.Laws.Entries.{inTurn-snoc, good-shaped, numbersIn-append, Open, open-more, whole-front}
-use Rattle.sheet_text.specs.Line.{lineOf, textFrom}
+use Rattle.sheet_line.specs.Line.{lineOf}
+use Rattle.sheet_text.specs.Text.{textFrom}
 use Rattle.sheet_text.specs.Reading.{refused, goodLine, behind, readBy, firstLine, lines}
-use Rattle.sheet_text.proofs.Laws.Lines.{firstLine-split, lines-line, line-pos}
+use Rattle.sheet_line.proofs.Laws.LineAt.{line-pos}
+use Rattle.sheet_text.proofs.Laws.Lines.{firstLine-split, lines-line}
 use Rattle.sheet_text.proofs.Laws.Readings.{text-more, entryAt, goodLine-good, readBy-whole, readBy-none, readBy-bad, readBy-good, length-snoc, read-line}
 
 -- ---- a refusal goes by the way that led there

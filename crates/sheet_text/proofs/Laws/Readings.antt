@@ -15,9 +15,11 @@ use Rattle.octets.proofs.Choice.{pick-cases, T-true, decide, T-and, T-and-left,
 use Rattle.sheet.specs.Table.{rowAt}
 use Rattle.sheet.specs.Judge.{Entry, numbersIn, good, inTurn, whole, valid}
 use Rattle.sheet.proofs.Laws.Entries.{good-shaped, numbersIn-append, whole-front}
-use Rattle.sheet_text.specs.Line.{lineOf, entryIn, textFrom, textOf}
+use Rattle.sheet_line.specs.Line.{lineOf, entryIn}
+use Rattle.sheet_text.specs.Text.{textFrom, textOf}
 use Rattle.sheet_text.specs.Reading.{Outcome, reads, refused, goodLine, behind, readBy, outcome, readingOf, readOf}
-use Rattle.sheet_text.proofs.Laws.Lines.{entry-line, line-pos}
+use Rattle.sheet_line.proofs.Laws.LineAt.{line-pos}
+use Rattle.sheet_text.proofs.Laws.Lines.{entry-line}
 
 -- ---- one line
 

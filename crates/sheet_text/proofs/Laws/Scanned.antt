@@ -24,10 +24,11 @@ use Rattle.sheet.proofs.Laws.Entries.{userId-short, good-numbers, whole-eq, eq-
 use Rattle.sheet.proofs.Laws.Fresh.{seats-bound}
 use Rattle.sheet.proofs.Laws.Names.{no-name, seat-named, new-among}
 use Rattle.sheet.proofs.Laws.Laid.{alone-take, nameOf-rowOf, seat-name}
-use Rattle.sheet_text.specs.Line.{lineOf, entryIn, textFrom, textOf}
+use Rattle.sheet_line.specs.Line.{lineOf, entryIn}
+use Rattle.sheet_text.specs.Text.{textFrom, textOf}
 use Rattle.sheet_text.specs.Reading.{Outcome, reads, refused, goodLine, behind, readBy, outcome, noRefusal, readingOf, usersFrom, readOf, usersIn, usersOver}
 use Rattle.sheet_text.specs.Inner.{goodAt, JudgedIs}
-use Rattle.sheet_text.specs.declared.line.Line.the-variants.{Good}
+use Rattle.sheet_line.specs.declared.Line.the-variants.{Good}
 use Rattle.sheet_text.proofs.Laws.Lines.{length-textOf-snoc}
 use Rattle.sheet_text.proofs.Laws.Readings.{entryAt, goodLine-good, readBy-whole, readBy-bad, readBy-good, length-behind}
 
@@ -121,7 +122,6 @@ pub record Scanned (t numbers : List ℕ) (users : List (List ℕ)) (at k : ℕ)
   pub users-are : users ≡ usersOf before
   pub fits : k ≤ linesIn numbers
   pub place : at ≡ length (textOf before)
-  pub inside : at ≤ length t
   pub enough : length (drop at t) ≤ fuel
   pub same-outcome : readBy fuel before (drop at t) ≡ outcome t
 
@@ -138,7 +138,6 @@ scanned-none t =
       users-are = refl;
       fits = zero-le;
       place = refl;
-      inside = zero-le;
       enough = le-refl (length t);
       same-outcome = refl;
     }
@@ -301,8 +300,8 @@ module _ {t numbers : List ℕ} {users : List (List ℕ)} {at k : ℕ} (i : Scan
 
     -- what the pass holds behind it
     pub scanned-more : (users′ : List (List ℕ)) (at′ : ℕ) → users′ ≡ usersOf more
-        → at′ ≡ at + length (lineOf (rowAt k) next) → at′ ≤ length t → Scanned t (set numbers k (next .number)) users′ at′ (k + 1)
-    scanned-more users′ at′ u a l =
+        → at′ ≡ at + length (lineOf (rowAt k) next) → Scanned t (set numbers k (next .number)) users′ at′ (k + 1)
+    scanned-more users′ at′ u a =
         let r = reading-next (i .fuel) (i .enough) (i .same-outcome) in
         let c : length more ≡ k + 1 = length-append (i .before) (next ∷ []) ∙ ap (λ (m : ℕ). m + 1) (i .count) in
         record {
@@ -314,7 +313,6 @@ module _ {t numbers : List ℕ} {users : List (List ℕ)} {at k : ℕ} (i : Scan
           users-are = u;
           fits = fits-next;
           place = a ∙ place-next;
-          inside = l;
           enough = rw a (r .1);
           same-outcome = rw a (r .2);
         }
@@ -367,7 +365,7 @@ module _ {t numbers : List ℕ} {users : List (List ℕ)} {at k : ℕ} (i : Scan
   unfolding JudgedIs
   scanned-turn users′ u =
       subst (λ (x : ℕ). Scanned t (set numbers k x) users′ (e + 1) (k + 1)) (sym (j .1))
-      (scanned-more i h (j .0) users′ (e + 1) (users-after users′ u) (j .3) (let l = j .2 .within in omega arith))
+      (scanned-more i h (j .0) users′ (e + 1) (users-after users′ u) (j .3))
 
 -- ---- what the pass gives
 

@@ -10,7 +10,7 @@ use lib.Seq.{drop-cons}
 use Rattle.octets.specs.Buffer.{putAt}
 use Rattle.octets.proofs.Lists.{getD-default}
 use Rattle.octets.proofs.Buffer.{putAt-nil, put-both}
-use Rattle.sheet_text.specs.Line.{lf}
+use Rattle.sheet_line.specs.Line.{lf}
 use Rattle.packet.specs.declared.Message.{Message}
 use Rattle.packet.specs.declared.Message.the-variants.{ReceiveRequest, ReceiveResponse, EndRequest, EndResponse, TransmissionEnd, TransmissionEndResponse, Ack}
 use Rattle.kinds.specs.Judge.{Held}

@@ -9,7 +9,7 @@ use lib.ListN.{length, getD, drop}
 use denote.Ref.{now}
 use Rattle.octets.specs.Choice.{front}
 use Rattle.octets.proofs.Choice.{front-drop-true, front-drop-false, front-drop-end}
-use Rattle.sheet_text.specs.Line.{lf}
+use Rattle.sheet_line.specs.Line.{lf}
 use Rattle.look.specs.Lines.{inLine}
 use Rattle.look.proofs.lines.line_end.Statement.{statement}
 use Rattle.look.proofs.lines.line_end.Tie as tie

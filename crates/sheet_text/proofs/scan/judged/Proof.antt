@@ -11,9 +11,9 @@ use borrow.Author.Needs.{needs}
 use borrow.Author.Tests.{not-true, not-false}
 use Rattle.sheet.specs.Table.{table, numberLines, rowAt}
 use Rattle.sheet.specs.Find.{newName}
-use Rattle.sheet_text.specs.declared.line.Line.the-variants.{Good}
-use Rattle.sheet_text.specs.Line.{entryIn}
-use Rattle.sheet_text.specs.Inner.{LineIs}
+use Rattle.sheet_line.specs.declared.Line.the-variants.{Good}
+use Rattle.sheet_line.specs.Line.{entryIn}
+use Rattle.sheet_line.specs.Inner.{LineIs}
 use Rattle.sheet_text.proofs.Laws.Judgement.{judged-no-line, judged-no-number, judged-alone, judged-seat, judged-no-seat}
 use Rattle.sheet_text.proofs.scan.judged.Statement.{statement}
 use Rattle.sheet_text.proofs.scan.judged.Tie as tie
@@ -40,7 +40,7 @@ good-told : (c : tie.After-known-told)
     → LineIs (now (start c .args .text)) (start c .args .at) (rowAt (start c .args .k)) (Good (number c) (from c) (end c))
 good-told c =
     let a = start c .args in
-    subst (LineIs (now (a .text)) (a .at) (rowAt (a .k))) (c .before .found .given .1) (at-line c .line-at .ensures)
+    subst (LineIs (now (a .text)) (a .at) (rowAt (a .k))) (c .before .found .given .1) (at-line c .line-at .ensures .1)
 
 -- the name that was looked for is the line's
 abbrev at-name : tie.After-is-new-name → tie.After-known-told
@@ -108,7 +108,7 @@ returns-3 c =
     let found = c .before .before in
     let a = found .before .before .args in
     judged-no-line (now (a .text)) (a .at) (a .k) (now (a .numbers)) (now (a .users))
-    (subst (LineIs (now (a .text)) (a .at) (rowAt (a .k))) (c .enum-told .given .1) (found .line-at .ensures))
+    (subst (LineIs (now (a .text)) (a .at) (rowAt (a .k))) (c .enum-told .given .1) (found .line-at .ensures .1))
 
 returns-4 : tie.Need-returns-4
 unfolding numberLines table

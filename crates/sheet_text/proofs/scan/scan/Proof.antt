@@ -9,7 +9,7 @@ use lib.ListN.{set}
 use denote.Ref.{now}
 use borrow.Author.Needs.{needs}
 use Rattle.sheet.specs.Table.{table, numberLines, seatsLine, mostSeats}
-use Rattle.sheet_text.specs.declared.line.Line.the-variants.{Good}
+use Rattle.sheet_line.specs.declared.Line.the-variants.{Good}
 use Rattle.sheet_text.specs.declared.Reading.{Reading}
 use Rattle.sheet_text.specs.Reading.{noRefusal, readingOf}
 use Rattle.sheet_text.specs.Inner.{JudgedIs}
@@ -72,7 +72,7 @@ unfolding numberLines table seatsLine mostSeats
 add-loop c = omega (arith, scanned-room (c .loop .inv))
 
 judged-requires : tie.Need-judged-requires Inv-loop μ-loop
-judged-requires c κs = (room (c .before .before), state (c .before .before) .inside)
+judged-requires c κs = room (c .before .before)
 
 enum-known-number : tie.Need-enum-known-number Inv-loop μ-loop
 enum-known-number c = search needs

@@ -8,9 +8,9 @@ use Rattle.octets.specs.Choice.{same, every}
 use Rattle.octets.proofs.Choice.{T-and-left, T-and-right, same-eq, NoneFrom, none-from}
 use Rattle.sheet.specs.Table.{Row, table, seatRow, numberLines, rowAt}
 use Rattle.sheet.proofs.Laws.Rules.{rowAt-seat, every-row}
-use Rattle.sheet_text.specs.declared.key.Key.{Key}
-use Rattle.sheet_text.specs.Line.{lf}
-use Rattle.sheet_text.specs.Inner.{keys, KeyOf}
+use Rattle.sheet_line.specs.declared.key.Key.{Key}
+use Rattle.sheet_line.specs.Line.{lf}
+use Rattle.sheet_line.specs.Inner.{keys, KeyOf}
 
 -- ---- the keys of the definition
 

@@ -1,25 +1,26 @@
 -- Laws of one line of a sheet as text: its key, the digits of its number and what follows them, each at its place in the text.
 -- The heart is octets' `begins-decimal`: a number in decimal stands there where the digits have no leading zero. Assumes nothing.
-use mathlib.Core.Path.{_≡_, refl, sym, _∙_}
+use mathlib.Core.Path.{_≡_, refl, sym, ap, _∙_}
 use mathlib.Core.Bool.{true, false, _&&_, and-false}
 use mathlib.Core.List.{List, [], _∷_, _++_}
-use Prim.Native.Nat.{ℕ, _+_, _-_, min}
+use Prim.Native.Nat.{ℕ, _+_, _-_, _≤_, _<_, min}
 use native.Mathlib.Omega.{arith}
-use lib.ListN.{length, drop, length-append, length-drop}
+use lib.ListN.{length, drop, length-append, length-take, length-drop}
 use lib.Seq.{drop-drop}
 use lib.Dec.{T}
 use Rattle.octets.specs.Choice.{begins, front}
 use Rattle.octets.specs.Text.{digit, valueOf, decimal, plain}
-use Rattle.octets.proofs.Choice.{T-true, true-T, pick-cases, begins-of-append, every-front}
+use Rattle.octets.proofs.Choice.{T-true, T-false, true-T, pick-cases, begins-of-append, every-front}
 use Rattle.octets.proofs.Places.{begins-length, begins-front, take-front-between, drop-front-end}
-use Rattle.octets.proofs.Text.{begins-decimal, decimal-value}
+use Rattle.octets.proofs.Text.{begins-decimal, decimal-value, length-decimal-pos}
 use Rattle.sheet.specs.Table.{Row}
-use Rattle.sheet.specs.Judge.{visible}
+use Rattle.sheet.specs.Judge.{Entry, visible}
 use Rattle.sheet.specs.Inner.{cap}
-use Rattle.sheet_text.specs.declared.line.Line.the-variants.{Good, Bad}
-use Rattle.sheet_text.specs.declared.line.Rest.the-variants.{Good as GoodTail, Bad as BadTail}
-use Rattle.sheet_text.specs.Line.{lf, comma, tailOf, lineOf, digitsAfter, nameAfter, entryIn}
-use Rattle.sheet_text.specs.Inner.{tailName, TailIs, LineIs}
+use Rattle.sheet_line.specs.declared.Line.{Line}
+use Rattle.sheet_line.specs.declared.Line.the-variants.{Good, Bad}
+use Rattle.sheet_line.specs.declared.Rest.the-variants.{Good as GoodTail, Bad as BadTail}
+use Rattle.sheet_line.specs.Line.{lf, comma, tailOf, lineOf, digitsAfter, nameAfter, entryIn, lineAt}
+use Rattle.sheet_line.specs.Inner.{tailName, TailIs, LineIs}
 
 -- ---- what follows a number on a line with a number alone: LF
 
@@ -151,3 +152,31 @@ module _ (t : List ℕ) (at start end : ℕ) (r : Row) (starts : start ≡ at + 
   line-good n a e k v p f =
       let length-of = length-line (true-T (plain (front digit (drop start t))) p) in
       (rw (begins-line, k, p) (f .0), rw entry-number v, rw entry-name (f .1), f .2 ∙ sym length-of)
+
+-- ---- the line as the definition says it
+
+-- a line is not empty
+pub line-pos : (r : Row) (e : Entry) → 1 ≤ length (lineOf r e)
+unfolding lineOf
+line-pos r e =
+    let p : 1 ≤ length (decimal (e .number)) = length-decimal-pos (e .number) in
+    simp length-append (omega arith)
+
+-- none stands past the text
+pub line-past : (t : List ℕ) (at : ℕ) (r : Row) → length t < at → LineIs t at r Bad
+unfolding LineIs
+line-past t at r h =
+    let e = entryIn r (drop at t) in
+    T-false (begins (lineOf r e) (drop at t))
+    (λ w. omega (arith, line-pos r e, rw length-drop at (begins-length (lineOf r e) (drop at t) w)))
+
+-- what was found is what the definition says
+pub line-is : (t : List ℕ) (at : ℕ) (r : Row) (x : Line) → LineIs t at r x → x ≡ lineAt t at r
+unfolding LineIs lineAt
+line-is t at r (Good n a e) h =
+    let name = entryIn r (drop at t) .name in
+    let wide : min (e - a) (length t - a) ≡ length name = rw (length-take, length-drop) at (ap length (h .2 .octets)) in
+    let end : e ≡ at + length (lineOf r (entryIn r (drop at t))) - 1 = omega (arith, h .3) in
+    let from : a ≡ e - length name = omega (arith, wide, h .2 .from, h .2 .within) in
+    rw (T-true (begins (lineOf r (entryIn r (drop at t))) (drop at t)) (h .0), ← (h .1), ← end, ← from)
+line-is t at r Bad h = rw h

@@ -1,10 +1,10 @@
--- `sheet_text::key::key_of` meets its contract: each arm's key is the definition's, by one test that is computed there.
+-- `sheet_line::key::key_of` meets its contract: each arm's key is the definition's, by one test that is computed there.
 -- Assumes nothing.
 use Rattle.sheet.specs.Table.{table, seatRow, numberLines, rowAt}
-use Rattle.sheet_text.specs.Inner.{keys}
-use Rattle.sheet_text.proofs.Laws.Keys.{right, key-at, key-seat}
-use Rattle.sheet_text.proofs.key.key_of.Statement.{statement}
-use Rattle.sheet_text.proofs.key.key_of.Tie as tie
+use Rattle.sheet_line.specs.Inner.{keys}
+use Rattle.sheet_line.proofs.Laws.Keys.{right, key-at, key-seat}
+use Rattle.sheet_line.proofs.key.key_of.Statement.{statement}
+use Rattle.sheet_line.proofs.key.key_of.Tie as tie
 
 pub key-of-spec : {M : Type 1} → statement M
 unfolding right rowAt table seatRow numberLines keys

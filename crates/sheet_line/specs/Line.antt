@@ -1,11 +1,14 @@
--- One line of a call sheet as text (document 01, "Call sheet"), and the text of a whole sheet. Assumes nothing.
-use Prim.Native.Nat.{ℕ, suc, _+_, _*_}
-use mathlib.Core.List.{List, [], _∷_, _++_, map, foldr}
-use lib.ListN.{length, drop, replicate}
-use Rattle.octets.specs.Choice.{pick, front}
+-- One line of a call sheet as text (document 01, "Call sheet"). Assumes nothing.
+use Prim.Native.Nat.{ℕ, _+_, _-_, min}
+use mathlib.Core.List.{List, [], _∷_, _++_}
+use lib.ListN.{length, drop}
+use Rattle.octets.specs.Choice.{pick, begins, front}
 use Rattle.octets.specs.Text.{decimal, valueOf, digit}
-use Rattle.sheet.specs.Table.{Row, table, seatRow, mostSeats, rowAt}
-use Rattle.sheet.specs.Judge.{Entry, visible, longestName}
+use Rattle.sheet.specs.Table.{Row}
+use Rattle.sheet.specs.Judge.{Entry, visible}
+use Rattle.sheet.specs.Inner.{cap}
+use Rattle.sheet_line.specs.declared.Line.{Line}
+use Rattle.sheet_line.specs.declared.Line.the-variants.{Good, Bad}
 
 abbrev pub lf : ℕ
 lf = 10
@@ -21,22 +24,6 @@ tailOf r name = pick (r .named) (comma ∷ name ++ (lf ∷ [])) (lf ∷ [])
 unfoldable pub lineOf : Row → Entry → List ℕ
 lineOf r e = r .key ++ (decimal (e .number) ++ tailOf r (e .name))
 
--- the text of the lines from line k on
-unfoldable pub textFrom : ℕ → List Entry → List ℕ
-textFrom k [] = []
-textFrom k (e ∷ es) = lineOf (rowAt k) e ++ textFrom (suc k) es
-
-unfoldable pub textOf : List Entry → List ℕ
-textOf es = textFrom 0 es
-
--- the most octets that a line of this row has: its key, the digits of its greatest number, and on a seat's line the longest User ID
-unfoldable pub widest : Row → ℕ
-widest r = length (r .key) + length (decimal (r .greatest)) + length (tailOf r (replicate longestName 0x21))
-
--- the most octets that a sheet has
-unfoldable pub longest : ℕ
-longest = foldr _+_ (mostSeats * widest seatRow) (map widest table)
-
 -- The entry that a text which begins with a line of this row has there: the number that the digits after the key make, and
 -- on a seat's line, what stands after the comma, "A User ID .. starts after the first comma". Whether the text does
 -- begin with that entry's line is asked apart.
@@ -48,3 +35,11 @@ nameAfter r s = front visible (drop (length (r .key) + length (digitsAfter r s) 
 
 unfoldable pub entryIn : Row → List ℕ → Entry
 entryIn r s = record { number = valueOf (digitsAfter r s); name = pick (r .named) (nameAfter r s) [] }
+
+-- The line of this row that stands at a place of a text: its number, told apart as far as the cap, where its User ID begins, and its LF;
+-- or that none does.
+unfoldable pub lineAt : List ℕ → ℕ → Row → Line
+lineAt t at r =
+    let e = entryIn r (drop at t) in
+    let end = at + length (lineOf r e) - 1 in
+    pick (begins (lineOf r e) (drop at t)) (Good (min (e .number) cap) (end - length (e .name)) end) Bad

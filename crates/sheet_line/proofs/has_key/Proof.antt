@@ -1,9 +1,9 @@
--- `sheet_text::line::has_key` meets its contract: the octets from the key's place to its end are looked for at the place.
+-- `sheet_line::has_key` meets its contract: the octets from the key's place to its end are looked for at the place.
 -- Assumes nothing.
 use borrow.Author.Needs.{needs}
-use Rattle.sheet_text.specs.Inner.{keys}
-use Rattle.sheet_text.proofs.line.has_key.Statement.{statement}
-use Rattle.sheet_text.proofs.line.has_key.Tie as tie
+use Rattle.sheet_line.specs.Inner.{keys}
+use Rattle.sheet_line.proofs.has_key.Statement.{statement}
+use Rattle.sheet_line.proofs.has_key.Tie as tie
 
 sub-stands-at : tie.Need-sub-stands-at
 sub-stands-at c = search needs

@@ -1,4 +1,4 @@
--- `sheet_text::line::digits` meets its contract: the number is the digits' so far, as far as CAP; with those still ahead it makes the whole.
+-- `sheet_line::digits` meets its contract: the number is the digits' so far, as far as CAP; with those still ahead it makes the whole.
 -- Assumes nothing.
 use mathlib.Core.Path.{_≡_, refl, sym, ap, _∙_}
 use mathlib.Core.Logic.{⊎-elim}
@@ -13,8 +13,8 @@ use Rattle.octets.specs.Text.{digit, valueFrom, valueOf}
 use Rattle.octets.proofs.Choice.{T-true, true-T, front-drop-true, front-drop-false, front-drop-end}
 use Rattle.octets.proofs.Text.{digit-low, digit-high}
 use Rattle.sheet.specs.Inner.{cap}
-use Rattle.sheet_text.proofs.line.digits.Statement.{statement}
-use Rattle.sheet_text.proofs.line.digits.Tie as tie
+use Rattle.sheet_line.proofs.digits.Statement.{statement}
+use Rattle.sheet_line.proofs.digits.Tie as tie
 
 abbrev Inv-loop : tie.InvT-loop
 Inv-loop text at number₀ i₀ number i =

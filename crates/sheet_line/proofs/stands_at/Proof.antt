@@ -1,4 +1,4 @@
--- `sheet_text::line::stands_at` meets its contract: the whole key stands at the place if what is left of it stands where the loop is.
+-- `sheet_line::stands_at` meets its contract: the whole key stands at the place if what is left of it stands where the loop is.
 -- Assumes nothing.
 use mathlib.Core.Path.{_≡_, sym, _∙_}
 use Prim.Native.Nat.{_+_, _-_, _≤_}
@@ -8,8 +8,8 @@ use lib.ListN.{length, drop, length-drop, drop-of-length-le}
 use denote.Ref.{now}
 use Rattle.octets.specs.Choice.{begins}
 use Rattle.octets.proofs.Places.{begins-drop-other, begins-drop-same, begins-short}
-use Rattle.sheet_text.proofs.line.stands_at.Statement.{statement}
-use Rattle.sheet_text.proofs.line.stands_at.Tie as tie
+use Rattle.sheet_line.proofs.stands_at.Statement.{statement}
+use Rattle.sheet_line.proofs.stands_at.Tie as tie
 
 abbrev Inv-loop : tie.InvT-loop
 Inv-loop text at key i₀ i =

@@ -1,7 +1,9 @@
 // One line of a sheet as text (document 01, "Call sheet"): key, number, on a seat's line a comma and a User ID, then LF.
-use super::key::KEYS;
-use super::key::Key;
-use super::key::key_of;
+mod key;
+
+use key::KEYS;
+use key::Key;
+use key::key_of;
 use seats::user::visible_end;
 use sheet::numbers::NUMBER_LINES;
 ghost use mathlib.Core.Path.{_≡_};
@@ -12,7 +14,8 @@ ghost use Rattle.octets.specs.Choice.{begins, front};
 ghost use Rattle.octets.specs.Text.{digit, valueOf, plain};
 ghost use Rattle.sheet.specs.Table.{rowAt};
 ghost use Rattle.sheet.specs.Inner.{cap};
-ghost use Rattle.sheet_text.specs.Inner.{keys, LineIs, TailIs};
+ghost use Rattle.sheet_line.specs.Inner.{keys, TailIs};
+ghost use Rattle.sheet_line.specs.Promises.{line-at≡};
 
 // Numbers are told apart as far as this; every number that a line may have is below it.
 const CAP: u64 = 4294967296;
@@ -140,9 +143,11 @@ fn tail(text: &[u8], at: usize, k: usize) -> Rest
 
 // The line at a place, as line k.
 pub fn line_at(text: &[u8], at: usize, k: usize) -> Line
-    requires { ⌜ at ≤ length (now text) ⌝ }
-    ensures { λ found. ⌜ LineIs (now (text .entry)) at (rowAt k) found ⌝ }
+    ensures { λ found. ⌜ line-at≡ (now (text .entry)) at k found ⌝ }
 {
+    if text.len() < at {
+        return Line::Bad;
+    }
     let key = key_of(k);
     if !has_key(text, at, key) {
         return Line::Bad;

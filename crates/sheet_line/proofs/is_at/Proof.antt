@@ -1,11 +1,11 @@
--- `sheet_text::line::is_at` meets its contract: what stands from the place on begins with its octet there, or is nothing.
+-- `sheet_line::is_at` meets its contract: what stands from the place on begins with its octet there, or is nothing.
 -- Assumes nothing.
 use mathlib.Core.Path.{sym}
 use lib.ListN.{drop-of-length-le}
 use borrow.Author.Needs.{needs}
 use Rattle.octets.proofs.Places.{begins-one}
-use Rattle.sheet_text.proofs.line.is_at.Statement.{statement}
-use Rattle.sheet_text.proofs.line.is_at.Tie as tie
+use Rattle.sheet_line.proofs.is_at.Statement.{statement}
+use Rattle.sheet_line.proofs.is_at.Tie as tie
 
 shared-slice-read-result : tie.Need-shared-slice-read-result
 shared-slice-read-result c = search needs

@@ -1,6 +1,6 @@
 // The keys of a sheet's lines, as a table (document 01, "Call sheet"). A later line with a number is a row more, its key at the
 // end of KEYS, so that no other row moves.
-ghost use Rattle.sheet_text.specs.Inner.{KeyOf};
+ghost use Rattle.sheet_line.specs.Inner.{KeyOf};
 
 // Where a line's key begins in KEYS, and where it ends.
 pub struct Key {

@@ -1,4 +1,4 @@
--- `sheet_text::line::tail` meets its contract: the octets found at the places are those of what follows a number on the row's line.
+-- `sheet_line::tail` meets its contract: the octets found at the places are those of what follows a number on the row's line.
 -- Assumes nothing.
 use mathlib.Core.Path.{_≡_, refl, sym, _∙_}
 use mathlib.Core.Bool.{true, false}
@@ -7,9 +7,9 @@ use borrow.Author.Needs.{needs}
 use borrow.Author.Tests.{not-true, not-false}
 use Rattle.sheet.specs.Table.{table, numberLines, rowAt}
 use Rattle.sheet.proofs.Laws.Rules.{row-unnamed, row-named}
-use Rattle.sheet_text.proofs.Laws.LineAt.{tail-lf, tail-no-lf, tail-no-comma, tail-no-end, tail-seat}
-use Rattle.sheet_text.proofs.line.tail.Statement.{statement}
-use Rattle.sheet_text.proofs.line.tail.Tie as tie
+use Rattle.sheet_line.proofs.Laws.LineAt.{tail-lf, tail-no-lf, tail-no-comma, tail-no-end, tail-seat}
+use Rattle.sheet_line.proofs.tail.Statement.{statement}
+use Rattle.sheet_line.proofs.tail.Tie as tie
 
 -- the line has a number alone, or is a seat's
 alone : (c : tie.Then1) → rowAt (c .before .before .args .k) .named ≡ false

@@ -1,4 +1,4 @@
--- `sheet_text::line::is_plain` meets its contract: no octet, one, or two and more, of which the first decides.
+-- `sheet_line::is_plain` meets its contract: no octet, one, or two and more, of which the first decides.
 -- Assumes nothing.
 use mathlib.Core.Path.{_≡_}
 use Prim.Native.Nat.{_-_, _<_}
@@ -9,8 +9,8 @@ use lib.Seq.{drop-cons, getD-drop}
 use denote.Ref.{now}
 use borrow.Author.Needs.{needs}
 use Rattle.octets.proofs.Text.{plain-take}
-use Rattle.sheet_text.proofs.line.is_plain.Statement.{statement}
-use Rattle.sheet_text.proofs.line.is_plain.Tie as tie
+use Rattle.sheet_line.proofs.is_plain.Statement.{statement}
+use Rattle.sheet_line.proofs.is_plain.Tie as tie
 
 returns : tie.Need-returns
 returns c =
