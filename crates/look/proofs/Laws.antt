@@ -1,6 +1,4 @@
-pub mod Lines
 pub mod Line
-pub mod Fits
 pub mod Pieces
 pub mod Calls
 pub mod Steps

@@ -1,24 +1,19 @@
 -- What is claimed of `mcvlook` beyond its functions. Each has its proof under proofs/. Assumes nothing.
 use mathlib.Core.Path.{_≡_}
 use Prim.Native.Nat.{ℕ, _≤_}
-use mathlib.Core.Bool.{Bool}
 use mathlib.Core.List.{List, [], _∷_, _++_, map, flatten}
 use lib.ListN.{length, take}
 use lib.Dec.{T}
-use Rattle.octets.specs.Choice.{every}
-use Rattle.sheet_line.specs.Line.{lf}
 use Rattle.sheet_text.specs.Text.{longest}
 use Rattle.sheet_text.specs.Reading.{noRefusal}
 use Rattle.shown.specs.declared.Printing.{Printing}
 use Rattle.shown.specs.declared.Printing.the-variants.{Printed}
+use Rattle.lines.specs.Pieces.{mostHeld}
 use Rattle.look.specs.declared.Look.{Look}
 use Rattle.look.specs.declared.Stepped.{Stepped}
-use Rattle.look.specs.Lines.{inLine, linesOf}
 use Rattle.look.specs.Look.{lookOf}
-use Rattle.look.specs.Steps.{isRefused, stateOf, lastOf, mostHeld, roomAsked}
+use Rattle.look.specs.Steps.{isRefused, stateOf, roomAsked}
 use Rattle.look.specs.Promises.{start≡, step≡, end≡}
-
--- ---- piece by piece
 
 -- a call of `step`: the piece, the buffer lent, the answer, and the buffer afterwards
 pub record Call : Type 0 where
@@ -61,24 +56,3 @@ RefusedIsAll = (look : Look) (c : Call) → T (isRefused (stateOf look)) → Cal
 -- As much as is held decides a sheet (`LongestDecides` of sheet_text).
 abbrev pub HeldDecides : Type 0
 HeldDecides = longest ≤ mostHeld
-
--- ---- the lines
-
--- no LF in it
-unfoldable pub oneLine : List ℕ → Bool
-oneLine line = every inLine line
-
--- each ended by one LF
-unfoldable pub withLfs : List (List ℕ) → List ℕ
-withLfs lines = flatten (map (λ (line : List ℕ). line ++ (lf ∷ [])) lines)
-
--- a text made of lines with an LF behind each, and of one more without
-abbrev pub Lined : List ℕ → List (List ℕ) → List ℕ → Type 0
-Lined t ended left = T (every oneLine ended) × T (oneLine left) × (t ≡ withLfs ended ++ left)
-
--- Every text is made so, and its lines are those, the last only where it is not empty.
-abbrev pub LinesExactly : Type 0
-LinesExactly =
-    (t : List ℕ)
-    → ((ended : List (List ℕ)) × (left : List ℕ) × Lined t ended left)
-    × ((ended : List (List ℕ)) (left : List ℕ) → Lined t ended left → linesOf t ≡ ended ++ lastOf left)

@@ -5,11 +5,11 @@ use Prim.Native.Nat.{ℕ, _+_}
 use mathlib.Core.List.{List}
 use lib.ListN.{length}
 use Rattle.octets.specs.Buffer.{putAt}
-use Rattle.look.specs.declared.Look.{Look}
+use Rattle.sheet_text.specs.Reading.{noRefusal}
+use Rattle.look.specs.declared.Stepped.{Stepped}
 use Rattle.look.specs.Steps.{Went, lookAs}
 
 -- a text was put at a place, and a state is kept
-pub record WentTo (w : Went) (out : List ℕ) (at : ℕ) (look : Look) (end : ℕ) (now : List ℕ) : Type 0 where
-  pub kept : look ≡ lookAs (w .to)
-  pub past : end ≡ at + length (w .text)
+pub record WentTo (w : Went) (out : List ℕ) (at : ℕ) (r : Stepped) (now : List ℕ) : Type 0 where
+  pub done : r ≡ record { look = lookAs (w .to); written = at + length (w .text); refusal = noRefusal }
   pub put : now ≡ putAt out at (w .text)

@@ -1,4 +1,3 @@
-pub mod Lines
 pub mod Look
 pub mod Steps
 pub mod Inner

@@ -7,7 +7,7 @@ use lib.Dec.{eqb}
 use Rattle.octets.specs.Choice.{pick}
 use Rattle.sheet_text.specs.Reading.{readOf}
 use Rattle.shown.specs.Line.{lineOf, sheetLine}
-use Rattle.look.specs.Lines.{linesOf}
+use Rattle.lines.specs.Lines.{linesOf}
 
 -- "A refused sheet prints `sheet=LINE` and nothing more"
 unfoldable pub lookOf : List ℕ → List ℕ

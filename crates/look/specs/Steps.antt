@@ -1,21 +1,19 @@
 -- What `mcvlook` prints piece by piece: what is kept between two pieces of the input, and what each piece prints. That any pieces print what
--- `lookOf` says of the whole is claimed in Claims.antt, so that of this page a reader need believe no more than the claims name: `roomAsked`, `lastOf`,
+-- `lookOf` says of the whole is claimed in Claims.antt, so that of this page a reader need believe no more than the claims name: `roomAsked`,
 -- `isRefused` and `stateOf`. Assumes nothing.
 use Prim.Native.Nat.{ℕ, _+_, _*_}
 use mathlib.Core.Bool.{Bool, true, false}
-use mathlib.Core.List.{List, [], _∷_, _++_, map, flatten}
-use lib.ListN.{length, take, drop}
+use mathlib.Core.List.{List, [], _++_}
+use lib.ListN.{length, drop}
 use lib.Dec.{leb, ltb, eqb}
 use Rattle.octets.specs.Choice.{pick}
-use Rattle.octets.specs.Buffer.{over, padded}
-use Rattle.sheet_line.specs.Line.{lf}
+use Rattle.octets.specs.Buffer.{over}
 use Rattle.sheet_text.specs.Reading.{noRefusal, readOf}
 use Rattle.kinds.specs.declared.Numbers.{Numbers}
 use Rattle.kinds.specs.Kind.{numbersOf}
 use Rattle.shown.specs.Printing.{noRoom}
-use Rattle.hex.specs.Line.{mostDigits}
-use Rattle.shown.specs.Line.{lineBy, sheetLine}
-use Rattle.look.specs.declared.held.Held.{Held}
+use Rattle.shown.specs.Line.{sheetLine}
+use Rattle.lines.specs.Pieces.{leftFrom, linesText, lastLine, mostHeld, keptOf, heldIn, heldOf}
 use Rattle.look.specs.declared.Phase.{Phase}
 use Rattle.look.specs.declared.Phase.the-variants.{Sheet, Lines, Refused}
 use Rattle.look.specs.declared.Look.{Look}
@@ -28,35 +26,6 @@ pub data State : Type 0 where
   inSheet : List ℕ → State
   inLines : Numbers → List ℕ → State
   refusedSheet : State
-
--- how many octets are held at most: as many as decide a sheet, and more than a packet's line has digits
-abbrev pub mostHeld : ℕ
-mostHeld = 1024
-
--- a line so far, which one digit more than a packet's line has decides
-unfoldable pub keptOf : List ℕ → List ℕ
-keptOf line = take (mostDigits + 1) line
-
--- ---- the lines in a piece
-
--- the lines that an LF ends, where the first of them is begun already
-unfoldable pub endedFrom : List ℕ → List ℕ → List (List ℕ)
-endedFrom line [] = []
-endedFrom line (c ∷ t) = pick (eqb c lf) (line ∷ endedFrom [] t) (endedFrom (line ++ (c ∷ [])) t)
-
--- what stands behind the last LF; where there is none, all of it behind the line begun
-unfoldable pub leftFrom : List ℕ → List ℕ → List ℕ
-leftFrom line [] = line
-leftFrom line (c ∷ t) = pick (eqb c lf) (leftFrom [] t) (leftFrom (line ++ (c ∷ [])) t)
-
--- "A last line that is not empty counts"
-unfoldable pub lastOf : List ℕ → List (List ℕ)
-lastOf [] = []
-lastOf (c ∷ line) = (c ∷ line) ∷ []
-
--- what is printed for the lines that end
-unfoldable pub linesText : Numbers → List ℕ → List ℕ → List ℕ
-linesText n line piece = flatten (map (lineBy n) (endedFrom line piece))
 
 -- ---- what is printed
 
@@ -87,7 +56,7 @@ stepOf refusedSheet piece = record { to = refusedSheet; text = [] }
 -- the last line, where one is begun
 unfoldable pub lastText : State → List ℕ
 lastText (inSheet t) = []
-lastText (inLines n line) = flatten (map (lineBy n) (lastOf line))
+lastText (inLines n line) = lastLine n line
 lastText refusedSheet = []
 
 -- at the end of the input; a sheet that was not decided is now
@@ -103,12 +72,6 @@ isRefused (inLines n line) = false
 isRefused refusedSheet = true
 
 -- ---- the struct that keeps it
-
-unfoldable pub heldIn : Held → List ℕ
-heldIn h = take (h .len) (h .octets)
-
-unfoldable pub heldOf : List ℕ → Held
-heldOf xs = record { octets = padded mostHeld 0 xs; len = length xs }
 
 unfoldable pub stateOf : Look → State
 stateOf look = at (look .phase)

@@ -1,10 +1,8 @@
 // What `mcvlook` prints (document 01, "Bench program"): a call sheet and then packets in hex, one a line, come in pieces; out goes a line of
 // text for each packet. What is kept between two pieces is a value, and has the same size whatever came.
-mod held;
-mod lines;
-
-use held::Held;
-use held::MOST;
+use lines::held;
+use lines::held::Held;
+use lines::held::MOST;
 use packet::NO_NUMBERS;
 use packet::Numbers;
 use sheet::Refusal;
@@ -16,10 +14,10 @@ ghost use mathlib.Core.Path.{_≡_};
 ghost use mathlib.Core.Logic.{_⊎_};
 ghost use mathlib.Core.List.{[], _++_};
 ghost use Prim.Native.Nat.{_+_, _*_, _≤_};
-ghost use lib.Dec.{leb};
 ghost use lib.ListN.{length};
 ghost use Rattle.shown.specs.Promises.{Put};
-ghost use Rattle.look.specs.Steps.{mostHeld, inSheet, inLines, refusedSheet, stateOf, lookAs, fed, stepOf, lastText, decided, heldIn, roomAsked};
+ghost use Rattle.lines.specs.Pieces.{mostHeld, heldIn};
+ghost use Rattle.look.specs.Steps.{inSheet, refusedSheet, stateOf, lookAs, fed, stepOf, lastText, decided, roomAsked};
 ghost use Rattle.look.specs.Inner.{WentTo};
 ghost use Rattle.look.specs.Promises.{start≡, step≡, end≡, is-refused≡};
 
@@ -44,27 +42,13 @@ pub struct Stepped {
     pub refusal: Refusal,
 }
 
-// What is kept then, and the place past what was printed.
-struct Went {
-    look: Look,
-    end: usize,
-}
+// As many octets as may be held, and an LF.
+const BESIDE: usize = MOST + 1;
 
 // The room that the end of the input asks for, and a piece beside ten octets for each of its own.
-pub const ROOM: usize = TIMES * (MOST + 1);
+pub const ROOM: usize = TIMES * BESIDE;
 
 const NOT_REFUSED: Refusal = Refusal { number: 0, at: 0 };
-
-// Whether a buffer of so many octets has room for what a piece of so many prints.
-fn has_room(out: usize, piece: usize) -> bool
-    ensures { λ r. ⌜ r ≡ leb (roomAsked piece) out ⌝ }
-{
-    let times = out / TIMES;
-    if times < MOST + 1 {
-        return false;
-    }
-    piece <= times - (MOST + 1)
-}
 
 // What is kept before the first piece.
 pub fn start() -> Look
@@ -89,26 +73,27 @@ fn refused() -> Look
 }
 
 // Puts the lines that end in a piece, behind a sheet with these numbers.
-fn in_lines(out: &mut [u8], at: usize, numbers: Numbers, held: Held, piece: &[u8]) -> Went
+fn in_lines(out: &mut [u8], at: usize, numbers: Numbers, held: Held, piece: &[u8]) -> Stepped
     requires { ⌜ at + 10 * (length (heldIn held) + length (now piece)) ≤ length (now out) ⌝ }
-    ensures { λ r. ⌜ WentTo (fed numbers (heldIn held) (now (piece .entry))) (now (out .entry)) at (r .look) (r .end) (now (out .exit)) ⌝ }
+    ensures { λ r. ⌜ WentTo (fed numbers (heldIn held) (now (piece .entry))) (now (out .entry)) at r (now (out .exit)) ⌝ }
 {
     let kept = lines::put_lines(out, at, numbers, held, piece);
     let left = kept.held;
-    Went {
+    Stepped {
         look: Look {
             phase: Phase::Lines,
             numbers,
             held: left,
         },
-        end: kept.end,
+        written: kept.end,
+        refusal: NOT_REFUSED,
     }
 }
 
 // Reads the sheet from what is held, and puts its refusal, or the lines that end behind it and in the rest of a piece.
-fn decide(out: &mut [u8], held: Held, rest: &[u8]) -> Went
+fn decide(out: &mut [u8], held: Held, rest: &[u8]) -> Stepped
     requires { ⌜ ((length (heldIn held) ≡ mostHeld) ⊎ (now rest ≡ [])) × (roomAsked (length (now rest)) ≤ length (now out)) ⌝ }
-    ensures { λ r. ⌜ WentTo (decided (heldIn held ++ now (rest .entry))) (now (out .entry)) 0 (r .look) (r .end) (now (out .exit)) ⌝ }
+    ensures { λ r. ⌜ WentTo (decided (heldIn held ++ now (rest .entry))) (now (out .entry)) 0 r (now (out .exit)) ⌝ }
 {
     let octets = held.octets;
     let len = held::length_of(held);
@@ -117,9 +102,10 @@ fn decide(out: &mut [u8], held: Held, rest: &[u8]) -> Went
     let refusal = reading.refusal;
     if refusal.number != 0 {
         let end = line::put_sheet(out, 0, refusal.at);
-        return Went {
+        return Stepped {
             look: refused(),
-            end,
+            written: end,
+            refusal: NOT_REFUSED,
         };
     }
     let used = reading.used;
@@ -129,20 +115,21 @@ fn decide(out: &mut [u8], held: Held, rest: &[u8]) -> Went
 }
 
 // Holds a piece of the sheet, and decides the sheet once enough is held.
-fn in_sheet(out: &mut [u8], held: Held, piece: &[u8]) -> Went
+fn in_sheet(out: &mut [u8], held: Held, piece: &[u8]) -> Stepped
     requires { ⌜ roomAsked (length (now piece)) ≤ length (now out) ⌝ }
-    ensures { λ r. ⌜ WentTo (stepOf (inSheet (heldIn held)) (now (piece .entry))) (now (out .entry)) 0 (r .look) (r .end) (now (out .exit)) ⌝ }
+    ensures { λ r. ⌜ WentTo (stepOf (inSheet (heldIn held)) (now (piece .entry))) (now (out .entry)) 0 r (now (out .exit)) ⌝ }
 {
     let room = MOST - held::length_of(held);
     let more = held::with(held, piece, MOST);
     if piece.len() < room {
-        return Went {
+        return Stepped {
             look: Look {
                 phase: Phase::Sheet,
                 numbers: NO_NUMBERS,
                 held: more,
             },
-            end: 0,
+            written: 0,
+            refusal: NOT_REFUSED,
         };
     }
     decide(out, more, &piece[room..])
@@ -153,7 +140,7 @@ fn in_sheet(out: &mut [u8], held: Held, piece: &[u8]) -> Went
 pub fn step(look: Look, piece: &[u8], out: &mut [u8]) -> Stepped
     ensures { λ r. ⌜ step≡ look (now (piece .entry)) (now (out .entry)) r (now (out .exit)) ⌝ }
 {
-    if !has_room(out.len(), piece.len()) {
+    if !lines::has_room(out.len(), 0, piece.len() + BESIDE) {
         return Stepped {
             look,
             written: 0,
@@ -161,33 +148,15 @@ pub fn step(look: Look, piece: &[u8], out: &mut [u8]) -> Stepped
         };
     }
     let phase = look.phase;
-    let went = match phase {
+    match phase {
         Phase::Sheet => in_sheet(out, look.held, piece),
         Phase::Lines => in_lines(out, 0, look.numbers, look.held, piece),
-        Phase::Refused => Went {
+        Phase::Refused => Stepped {
             look: refused(),
-            end: 0,
+            written: 0,
+            refusal: NOT_REFUSED,
         },
-    };
-    let kept = went.look;
-    Stepped {
-        look: kept,
-        written: went.end,
-        refusal: NOT_REFUSED,
     }
-}
-
-// Puts the last line, where one is begun, and gives the place past it.
-fn put_last(out: &mut [u8], at: usize, numbers: Numbers, held: Held) -> usize
-    requires { ⌜ at + 10 * (length (heldIn held) + 1) ≤ length (now out) ⌝ }
-    ensures { λ r. ⌜ Put (lastText (inLines numbers (heldIn held))) (now (out .entry)) at r (now (out .exit)) ⌝ }
-{
-    let octets = held.octets;
-    let len = held::length_of(held);
-    if len == 0 {
-        return at;
-    }
-    line::put(out, at, numbers, &octets[..len])
 }
 
 // Puts what is left at the end of the input, and gives the place past it.
@@ -198,7 +167,7 @@ fn put_end(out: &mut [u8], at: usize, look: Look) -> usize
     let phase = look.phase;
     match phase {
         Phase::Sheet => at,
-        Phase::Lines => put_last(out, at, look.numbers, look.held),
+        Phase::Lines => lines::put_last(out, at, look.numbers, look.held),
         Phase::Refused => at,
     }
 }
@@ -216,7 +185,7 @@ pub fn end(look: Look, out: &mut [u8]) -> Printing
     };
     let nothing = [0u8; 0];
     let went = decide(out, look.held, &nothing);
-    Printing::Printed(put_end(out, went.end, went.look))
+    Printing::Printed(put_end(out, went.written, went.look))
 }
 
 // Whether the sheet was refused, so that nothing more is printed, whatever comes.

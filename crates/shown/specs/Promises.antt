@@ -55,7 +55,7 @@ line-once n line out x y now other e f = whole-once (lineBy n line) out x y now 
 abbrev pub Put : List ℕ → List ℕ → ℕ → ℕ → List ℕ → Type 0
 Put text out at r now = (now ≡ putAt out at text) × (r ≡ at + length text)
 
-one-put : (text out : List ℕ) (at : ℕ) (x y : ℕ) (now other : List ℕ) → Put text out at x now → Put text out at y other → (x ≡ y) × (now ≡ other)
+pub one-put : (text out : List ℕ) (at : ℕ) (x y : ℕ) (now other : List ℕ) → Put text out at x now → Put text out at y other → (x ≡ y) × (now ≡ other)
 one-put text out at x y now other e f = (one-value x y (e .1) (f .1), one-value now other (e .0) (f .0))
 
 -- what is printed for a line

@@ -14,6 +14,7 @@ use Rattle.incoming.specs as incoming
 use Rattle.outgoing.specs as outgoing
 use Rattle.hex.specs as hex
 use Rattle.shown.specs as shown
+use Rattle.lines.specs as lines
 use Rattle.look.specs as look
 use Rattle.cases.specs.Bench.{sheetWith, usersS, bench, Bench}
 
@@ -52,7 +53,7 @@ unfolding bench sheetWith usersS lib.Count.ones
     streams.Table.afterClearing streams.Table.onEnd streams.Table.onT11 streams.Table.ruleFor reception.Steps.seenOf reception.Steps.readOf
     reception.Steps.attemptOf reception.Steps.workOf reception.Steps.replyOf reception.Steps.stored reception.Steps.storeOf reception.Schedule.noted reception.Schedule.after
     reception.Schedule.ifTook reception.Schedule.takenAt reception.Schedule.run reception.Schedule.taken
-    look.Lines.before look.Lines.linesOf hex.Line.lineRight hex.Line.packetIn shown.Line.namesOf shown.Line.under
+    lines.Lines.before lines.Lines.linesOf hex.Line.lineRight hex.Line.packetIn shown.Line.namesOf shown.Line.under
     shown.Line.tenOf shown.Line.valueText shown.Line.labelled shown.Line.numberLine shown.Line.textOf shown.Line.lineAs shown.Line.lineOf shown.Line.sheetLine
     look.Look.lookOf
     incoming.Event.onStream incoming.Event.requestBy incoming.Event.heard incoming.Event.eventFrom incoming.Event.eventOf

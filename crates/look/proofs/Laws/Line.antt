@@ -1,58 +1,17 @@
--- Laws of what is printed for a line. Assumes nothing.
-use mathlib.Core.Path.{_≡_, refl, sym, ap, _∙_}
-use mathlib.Core.Logic.{⊎-elim}
-use mathlib.Core.Bool.{_&&_}
-use Prim.Native.Nat.{ℕ, _+_, _≤_, _<_}
+-- Laws of what is printed for a line under a sheet that was read. Assumes nothing.
+use mathlib.Core.Path.{_≡_, refl}
+use Prim.Native.Nat.{ℕ}
 use native.Mathlib.Omega.{arith}
 use mathlib.Core.List.{List}
-use mathlib.Core.Option.{none}
-use lib.ListN.{length}
-use lib.Seq.{take-all, length-take-le}
-use lib.Dec.{T, leb, leb→le}
-use Rattle.octets.specs.Hex.{isHex}
-use Rattle.octets.proofs.Choice.{T-false, T-and-left, T-and-right, le-or-lt}
+use lib.Dec.{T}
 use Rattle.sheet.specs.Value as sheet
 use Rattle.sheet.proofs.Laws.Laid.{laid-valid}
 use Rattle.sheet.proofs.Laws.Claims.{valid-alone-exactly}
 use Rattle.sheet_text.specs.Reading as sheet-reading
 use Rattle.sheet_text.proofs.Laws.Readings.{outcome-reads}
-use Rattle.kinds.specs.declared.Numbers.{Numbers}
 use Rattle.kinds.specs.Kind.{numbersOf}
-use Rattle.kinds.specs.Reading.{readBy}
-use Rattle.hex.specs.Line.{mostDigits, lineRight, packetIn}
-use Rattle.shown.specs.Line.{lineAs, lineOf, lineBy}
+use Rattle.shown.specs.Line.{lineOf, lineBy}
 use Rattle.shown.proofs.Laws.Line.{under-a-sheet}
-use Rattle.look.specs.Steps.{keptOf}
-
--- ---- what is kept of a line
-
--- a line with more digits than a packet has is no packet's
-long-none : (line : List ℕ) → mostDigits < length line → packetIn line ≡ none
-unfolding packetIn lineRight
-long-none line h =
-    rw (T-false (lineRight line)
-    (λ t.
-    let l : length line ≤ mostDigits =
-    leb→le (length line) mostDigits (T-and-left (leb (length line) mostDigits) (isHex line) (T-and-right (leb 1 (length line)) (leb (length line) mostDigits && isHex line) t)) in
-    omega arith))
-
--- so what is kept of it is the same packet's or none's
-kept-packet : (line : List ℕ) → packetIn (keptOf line) ≡ packetIn line
-unfolding keptOf
-kept-packet line =
-    ⊎-elim
-    (λ h. ap packetIn (take-all (mostDigits + 1) line h))
-    (λ (h : mostDigits + 1 < length line).
-    let k : length (keptOf line) ≡ mostDigits + 1 = length-take-le (mostDigits + 1) line (omega arith) in
-    long-none (keptOf line) (omega arith) ∙ sym (long-none line (omega arith)))
-    (le-or-lt (length line) (mostDigits + 1))
-
--- what is kept of a line decides what is printed for it: with one digit too many it is refused, whatever follows
-pub lineBy-kept : (n : Numbers) (line : List ℕ) → lineBy n (keptOf line) ≡ lineBy n line
-unfolding lineBy
-lineBy-kept n line = ap (lineAs (readBy n)) (kept-packet line)
-
--- ---- under a sheet that was read
 
 module _ (t : List ℕ) where
   -- the entries that were read are a sheet's

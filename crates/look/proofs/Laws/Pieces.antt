@@ -4,16 +4,15 @@ use mathlib.Core.Logic.{_⊎_, ⊎-elim}
 use Prim.Native.Nat.{ℕ, _+_, _≤_, _<_, zero-le}
 use native.Mathlib.Omega.{arith}
 use native.Mathlib.Bridge.{le-by-compare, IsLe}
-use mathlib.Core.List.{List, [], _∷_, _++_, map, map-append, flatten, append-assoc, append-nil}
-use lib.ListN.{length, drop, length-append, length-take}
-use lib.Seq.{take-all, take-take, take-append-le, drop-append-le}
+use mathlib.Core.List.{List, [], _∷_, _++_, map, flatten, append-assoc, append-nil}
+use lib.ListN.{length, drop, length-append}
+use lib.Seq.{take-all, take-append-le, drop-append-le}
 use lib.Dec.{ltb, eqb, ltb→lt, eqb→eq}
 use borrow.Author.Tests.{lt-ltb, le-ltb}
 use Rattle.octets.specs.Text.{decimal, decimalBy}
 use Rattle.octets.proofs.Choice.{T-true, decide, le-or-lt, pick-cases}
-use Rattle.octets.proofs.Buffer.{take-padded}
 use Rattle.sheet.specs.Table.{table, seatRow, mostSeats}
-use Rattle.sheet_line.specs.Line.{lf, tailOf}
+use Rattle.sheet_line.specs.Line.{tailOf}
 use Rattle.sheet_text.specs.Text.{widest, longest, textOf}
 use Rattle.sheet_text.specs.Reading as sheet-reading
 use Rattle.sheet_text.proofs.Laws.Readings.{outcome-reads}
@@ -21,77 +20,23 @@ use Rattle.sheet_text.proofs.Laws.Decides.{longest-decides}
 use Rattle.kinds.specs.declared.Numbers.{Numbers}
 use Rattle.kinds.specs.Kind.{numbersOf}
 use Rattle.hex.specs.Line.{mostDigits}
-use Rattle.shown.specs.Line.{lineBy, sheetLine}
+use Rattle.shown.specs.Line.{sheetLine}
+use Rattle.lines.specs.Lines.{linesOf}
+use Rattle.lines.specs.Pieces.{mostHeld, keptOf, endedFrom, leftFrom, linesText}
+use Rattle.lines.proofs.Laws.Kept.{kept-short, lines-append, kept-append, lines-whole}
+use Rattle.lines.proofs.Laws.Held.{held-back}
 use Rattle.look.specs.declared.Look.{Look}
-use Rattle.look.specs.Lines.{linesOf}
 use Rattle.look.specs.Look.{lookOf}
 use Rattle.look.specs.Claims.{HeldDecides}
-use Rattle.look.specs.Steps.{State, inSheet, inLines, refusedSheet, Went, keptOf, fed, decided, stepOf, lastText, endOf, heldIn, heldOf, stateOf, lookAs, mostHeld, endedFrom, leftFrom, lastOf, linesText}
-use Rattle.octets.proofs.Parts.{take-take-append, flatten-append}
-use Rattle.look.proofs.Laws.Lines.{ended-append, left-append, linesOf-ended}
-use Rattle.look.proofs.Laws.Line.{lineBy-kept, lineOf-read}
-
--- ---- lines
-
--- lines that are kept alike are kept alike with the same behind them
-kept-more : (line other more : List ℕ) → keptOf line ≡ keptOf other → keptOf (line ++ more) ≡ keptOf (other ++ more)
-unfolding keptOf
-kept-more line other more e =
-    sym (take-take-append (mostDigits + 1) line more)
-    ∙ ap (λ (x : List ℕ). keptOf (x ++ more)) e
-    ∙ take-take-append (mostDigits + 1) other more
-
--- and printed alike
-lineBy-alike : (n : Numbers) (line other : List ℕ) → keptOf line ≡ keptOf other → lineBy n line ≡ lineBy n other
-lineBy-alike n line other e = sym (lineBy-kept n line) ∙ ap (lineBy n) e ∙ lineBy-kept n other
-
--- and so is what ends in a piece
-lines-alike : (n : Numbers) (line other piece : List ℕ) → keptOf line ≡ keptOf other → linesText n line piece ≡ linesText n other piece
-unfolding linesText endedFrom flatten
-lines-alike n line other [] e = refl
-lines-alike n line other (c ∷ piece) e =
-    ⊎-elim
-    (λ b. rw (T-true (eqb c lf) b) (ap (λ (x : List ℕ). x ++ linesText n [] piece) (lineBy-alike n line other e)))
-    (λ f. rw f (lines-alike n (line ++ (c ∷ [])) (other ++ (c ∷ [])) piece (kept-more line other (c ∷ []) e)))
-    (decide (eqb c lf))
-
--- and what is left is kept alike
-left-alike : (line other piece : List ℕ) → keptOf line ≡ keptOf other → keptOf (leftFrom line piece) ≡ keptOf (leftFrom other piece)
-unfolding leftFrom
-left-alike line other [] e = e
-left-alike line other (c ∷ piece) e =
-    ⊎-elim
-    (λ b. rw (T-true (eqb c lf) b))
-    (λ f. rw f (left-alike (line ++ (c ∷ [])) (other ++ (c ∷ [])) piece (kept-more line other (c ∷ []) e)))
-    (decide (eqb c lf))
-
--- what is kept of a line is kept whole
-kept-kept : (line : List ℕ) → keptOf (keptOf line) ≡ keptOf line
-unfolding keptOf
-kept-kept line = take-take (mostDigits + 1) (mostDigits + 1) line (omega arith)
-
--- a line that is kept is printed and left as the line itself
-pub lines-kept : (n : Numbers) (line piece : List ℕ) → linesText n (keptOf line) piece ≡ linesText n line piece
-lines-kept n line piece = lines-alike n (keptOf line) line piece (kept-kept line)
-
-pub kept-left : (line piece : List ℕ) → keptOf (leftFrom (keptOf line) piece) ≡ keptOf (leftFrom line piece)
-kept-left line piece = left-alike (keptOf line) line piece (kept-kept line)
-
--- the text of two lists of lines
-texts-append : (n : Numbers) (xs ys : List (List ℕ)) → flatten (map (lineBy n) (xs ++ ys)) ≡ flatten (map (lineBy n) xs) ++ flatten (map (lineBy n) ys)
-texts-append n xs ys = ap flatten (map-append (lineBy n) xs ys) ∙ flatten-append (map (lineBy n) xs) (map (lineBy n) ys)
+use Rattle.look.specs.Steps.{State, inSheet, inLines, refusedSheet, Went, fed, decided, stepOf, lastText, endOf, stateOf, lookAs}
+use Rattle.look.proofs.Laws.Line.{lineOf-read}
 
 -- two pieces
 pub fed-append : (n : Numbers) (line s t : List ℕ)
     → (fed n line (s ++ t) .text ≡ fed n line s .text ++ fed n (keptOf (leftFrom line s)) t .text)
     × (fed n line (s ++ t) .to ≡ fed n (keptOf (leftFrom line s)) t .to)
-unfolding fed linesText
-fed-append n line s t = (
-  ap (λ (x : List (List ℕ)). flatten (map (lineBy n) x)) (ended-append line s t)
-      ∙ texts-append n (endedFrom line s) (endedFrom (leftFrom line s) t)
-      ∙ ap (λ (x : List ℕ). linesText n line s ++ x) (sym (lines-kept n (leftFrom line s) t)),
-  ap (λ (x : List ℕ). inLines n x) (ap keptOf (left-append line s t) ∙ sym (kept-left (leftFrom line s) t)),
-)
+unfolding fed
+fed-append n line s t = (lines-append n line s t, ap (inLines n) (kept-append line s t))
 
 -- ---- the sheet
 
@@ -129,13 +74,6 @@ module _ (t : List ℕ) where
   unfolding sheet-reading.readOf
   used-within = outcome-within (sheet-reading.outcome t) refl
 
--- ---- what is held
-
--- the struct holds what it was made of
-pub held-back : (xs : List ℕ) → length xs ≤ mostHeld → heldIn (heldOf xs) ≡ xs
-unfolding heldIn heldOf
-held-back xs h = take-padded mostHeld 0 xs
-
 -- ---- states that the struct holds
 
 -- no more is held than the struct holds, of a sheet less than decides it, and of a line what is kept
@@ -153,8 +91,8 @@ kept-back refusedSheet k = refl
 
 -- a piece's lines lead to one
 fed-kept : (n : Numbers) (line piece : List ℕ) → Kept (fed n line piece .to)
-unfolding Kept fed keptOf
-fed-kept n line piece = omega (arith, length-take (mostDigits + 1) (leftFrom line piece))
+unfolding Kept fed
+fed-kept n line piece = kept-short (leftFrom line piece) .1
 
 -- a sheet that is decided does
 pub decided-kept : (t : List ℕ) → Kept (decided t .to)
@@ -261,15 +199,9 @@ printed-step (p ∷ ps) st k =
 
 -- ---- all of it at once
 
--- the last line is printed as what is kept of it
-last-kept : (n : Numbers) (line : List ℕ) → lastText (inLines n (keptOf line)) ≡ flatten (map (lineBy n) (lastOf line))
-unfolding lastText lastOf keptOf flatten
-last-kept n [] = refl
-last-kept n (c ∷ line) = ap (λ (x : List ℕ). x ++ []) (lineBy-kept n (c ∷ line))
-
 -- a sheet that is decided and the last line are what is said of the whole
 decided-whole : (t : List ℕ) → decided t .text ++ lastText (decided t .to) ≡ lookOf t
-unfolding decided lookOf fed linesText lastText
+unfolding decided lookOf fed lastText
 decided-whole t =
     let r = sheet-reading.readOf t in
     let n = numbersOf (r .sheet) in
@@ -277,9 +209,7 @@ decided-whole t =
     ⊎-elim
     (λ b.
     rw (T-true (eqb (r .refusal .number) 0) b)
-    (ap (λ (x : List ℕ). flatten (map (lineBy n) (endedFrom [] u)) ++ x) (last-kept n (leftFrom [] u))
-    ∙ sym (texts-append n (endedFrom [] u) (lastOf (leftFrom [] u)))
-    ∙ ap (λ (x : List (List ℕ)). flatten (map (lineBy n) x)) (sym (linesOf-ended u))
+    (lines-whole n u
     ∙ ap (λ (f : List ℕ → List ℕ). flatten (map f (linesOf u))) (λ i line. sym (lineOf-read t (eqb→eq (r .refusal .number) 0 b) line) i)))
     (λ e. rw e (append-nil (sheetLine (r .refusal .at))))
     (decide (eqb (r .refusal .number) 0))

@@ -13,7 +13,7 @@ use Rattle.octets.specs.Buffer.{putAt}
 use Rattle.octets.proofs.Choice.{le-or-lt, pick-cases}
 use Rattle.octets.proofs.Buffer.{over-putAt, put-both}
 use Rattle.octets.proofs.Text.{length-decimal}
-use Rattle.sheet_text.specs.Reading.{noRefusal, readOf}
+use Rattle.sheet_text.specs.Reading.{readOf}
 use Rattle.sheet_text.proofs.Laws.Readings.{read-at}
 use Rattle.kinds.specs.declared.Numbers.{Numbers}
 use Rattle.kinds.specs.Kind.{numbersOf}
@@ -21,16 +21,19 @@ use Rattle.shown.specs.declared.Printing.the-variants.{Printed, Refused as Prin
 use Rattle.shown.specs.Printing.{noRoom}
 use Rattle.shown.specs.Line.{sheetLine}
 use Rattle.shown.proofs.Laws.Fits.{length-sheetLine}
+use Rattle.lines.specs.Pieces.{mostHeld, heldIn, heldOf, leftFrom, linesText}
+use Rattle.lines.proofs.Laws.Kept.{kept-short}
+use Rattle.lines.proofs.Laws.Fits.{lines-fit, last-fits}
+use Rattle.lines.proofs.Laws.Held.{held-none, kept-held}
 use Rattle.look.specs.declared.Phase.{Phase}
 use Rattle.look.specs.declared.Phase.the-variants.{Sheet, Lines, Refused}
 use Rattle.look.specs.declared.Look.{Look}
 use Rattle.look.specs.declared.Stepped.{Stepped}
-use Rattle.look.specs.Steps.{mostHeld, heldIn, heldOf, State, Went, inSheet, inLines, refusedSheet, stateOf, lookAs, fed, decided, stepOf, roomAsked, hasRoom, steppedOf, afterStep, lastText, endOf, leftFrom, linesText}
-use Rattle.look.specs.Promises.{end≡}
+use Rattle.look.specs.Steps.{State, Went, inSheet, inLines, refusedSheet, stateOf, lookAs, fed, decided, stepOf, roomAsked, hasRoom, steppedOf, afterStep, lastText, endOf}
+use Rattle.look.specs.Promises.{step≡, end≡}
 use Rattle.look.specs.Inner.{WentTo}
-use Rattle.look.proofs.Laws.Fits.{lines-fit, last-fits}
 use Rattle.look.proofs.Laws.Pieces.{kept-back, decided-kept}
-use Rattle.look.proofs.Laws.Steps.{held-none, kept-short, kept-held, step-held, step-decides, state-sheet, state-lines, state-refused}
+use Rattle.look.proofs.Laws.Steps.{step-held, step-decides, state-sheet, state-lines, state-refused}
 
 -- ---- a refusal's line
 
@@ -78,17 +81,16 @@ lines-step-fits n line piece h = omega (arith, fed-room n line piece)
 module _ (look : Look) (piece out : List ℕ) where
   -- without room nothing is taken
   pub step-none : leb (roomAsked (length piece)) (length out) ≡ false
-      → (_≡_ {A = Stepped} (record { look = look; written = 0; refusal = noRoom }) (steppedOf look piece out)) × (out ≡ afterStep look piece out)
+      → step≡ look piece out (record { look = look; written = 0; refusal = noRoom }) out
   unfolding steppedOf afterStep hasRoom
   step-none e = (rw e, rw e)
 
   -- with room the text is put into the front
-  pub step-done : leb (roomAsked (length piece)) (length out) ≡ true → (to : Look) (end : ℕ) (now : List ℕ)
-      → WentTo (stepOf (stateOf look) piece) out 0 to end now → length (stepOf (stateOf look) piece .text) ≤ length out
-      → (_≡_ {A = Stepped} (record { look = to; written = end; refusal = noRefusal }) (steppedOf look piece out)) × (now ≡ afterStep look piece out)
+  pub step-done : leb (roomAsked (length piece)) (length out) ≡ true → (r : Stepped) (now : List ℕ)
+      → WentTo (stepOf (stateOf look) piece) out 0 r now → length (stepOf (stateOf look) piece .text) ≤ length out → step≡ look piece out r now
   unfolding steppedOf afterStep hasRoom
-  step-done e to end now w fits =
-      (rw (e, w .kept, w .past, zero-add), rw (e, over-putAt (stepOf (stateOf look) piece .text) out fits) (w .put))
+  step-done e r now w fits =
+      (w .done ∙ rw (e, zero-add), rw (e, over-putAt (stepOf (stateOf look) piece .text) out fits) (w .put))
 
 -- ---- the end
 
@@ -128,19 +130,20 @@ module _ (look : Look) where
         (rw (e, i, zero-add), rw (e, over-putAt (endOf (stateOf look)) out fits) p)
 
 -- a sheet that is decided only now
-module _ (t : List ℕ) (h : length t ≤ mostHeld) (out : List ℕ) (room : roomAsked 0 ≤ length out) (look : Look) (end : ℕ) (mid : List ℕ)
-    (w : WentTo (decided t) out 0 look end mid) where
+module _ (t : List ℕ) (h : length t ≤ mostHeld) (out : List ℕ) (room : roomAsked 0 ≤ length out) (r : Stepped) (mid : List ℕ)
+    (w : WentTo (decided t) out 0 r mid) where
   -- there is room for the last line
-  pub decided-leaves : end + 10 * (length (heldIn (look .held)) + 1) ≤ length out
-  decided-leaves = rw (w .kept) (omega (arith, w .past, decided-room t mostHeld h (omega arith)))
+  pub decided-leaves : r .written + 10 * (length (heldIn (r .look .held)) + 1) ≤ length out
+  decided-leaves = rw (w .done) (omega (arith, decided-room t mostHeld h (omega arith)))
 
   -- it is printed behind the others
-  pub decided-end : (past : ℕ) (now : List ℕ) → now ≡ putAt mid end (lastText (stateOf look)) → past ≡ end + length (lastText (stateOf look))
+  pub decided-end : (past : ℕ) (now : List ℕ) → now ≡ putAt mid (r .written) (lastText (stateOf (r .look))) → past ≡ r .written + length (lastText (stateOf (r .look)))
       → (past ≡ 0 + length (endOf (inSheet t))) × (now ≡ putAt out 0 (endOf (inSheet t))) × (length (endOf (inSheet t)) ≤ length out)
   unfolding endOf
   decided-end past now p q =
       let last = lastText (decided t .to) in
-      let s : stateOf look ≡ decided t .to = ap stateOf (w .kept) ∙ kept-back (decided t .to) (decided-kept t) in
-      let fits : end + length last ≤ length out = rw (← s) (omega (arith, last-room look, decided-leaves)) in
-      let both = put-both out 0 (decided t .text) last mid end now past (w .put) (w .past) (rw s at p) (rw s at q) fits in
-      (both .1, both .0, rw length-append (omega (arith, fits, w .past)))
+      let written : r .written ≡ 0 + length (decided t .text) = ap (λ (x : Stepped). x .written) (w .done) in
+      let s : stateOf (r .look) ≡ decided t .to = ap (λ (x : Stepped). stateOf (x .look)) (w .done) ∙ kept-back (decided t .to) (decided-kept t) in
+      let fits : r .written + length last ≤ length out = rw (← s) (omega (arith, last-room (r .look), decided-leaves)) in
+      let both = put-both out 0 (decided t .text) last mid (r .written) now past (w .put) written (rw s at p) (rw s at q) fits in
+      (both .1, both .0, rw length-append (omega arith))

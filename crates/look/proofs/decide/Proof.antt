@@ -5,7 +5,7 @@ use mathlib.Core.List.{[]}
 use Prim.Native.Nat.{_+_, _-_, _*_, _≤_}
 use borrow.Author.Needs.{needs}
 use native.Mathlib.Omega.{arith}
-use lib.ListN.{length, take, drop, length-take, length-drop}
+use lib.ListN.{length, take, drop, length-drop}
 use lib.Seq.{length-take-le, take-all}
 use Rattle.octets.proofs.Buffer.{length-putAt}
 use Rattle.sheet_text.specs.Reading.{readOf}
@@ -14,9 +14,11 @@ use Rattle.kinds.specs.Kind.{numbersOf}
 use Rattle.shown.specs.Line.{sheetLine}
 use Rattle.shown.specs.Promises.{Put}
 use Rattle.shown.proofs.Laws.Fits.{fitting-whole}
-use Rattle.look.specs.Steps.{heldIn, heldOf, keptOf, leftFrom, linesText}
+use Rattle.lines.specs.Pieces.{heldIn, heldOf, keptOf, leftFrom, linesText}
+use Rattle.lines.proofs.Laws.Held.{held-within, held-most, held-all, held-none}
+use Rattle.lines.proofs.Laws.Pieces.{lines-put}
 use Rattle.look.proofs.Laws.Pieces.{used-within}
-use Rattle.look.proofs.Laws.Steps.{held-within, held-most, held-all, held-none, decided-refused, decided-read, second-fits, went-both}
+use Rattle.look.proofs.Laws.Steps.{decided-refused, decided-read, second-fits, went-both}
 use Rattle.look.proofs.Laws.Room.{sheetLine-length}
 use Rattle.look.proofs.decide.Statement.{statement}
 use Rattle.look.proofs.decide.Tie as tie
@@ -110,7 +112,7 @@ returns c =
     let start = read .before .before .before .before .before .before in
     let a = start .args in
     rw (decided-refused (heldIn (a .held)) (a .rest .now) (start .pre .0) (rw (sheet read) at (then1 .if1 .taken)))
-    (record { kept = c .refused .ensures; past = printed put .1; put = printed put .0 })
+    (record { done = rw (c .refused .ensures, printed put .1); put = printed put .0 })
 
 numbers-of-requires : tie.Need-numbers-of-requires
 numbers-of-requires c κs = search needs
@@ -128,10 +130,7 @@ part-put-lines-end : tie.Need-part-put-lines-end
 part-put-lines-end c = search needs
 
 put-lines-requires : tie.Need-put-lines-requires
-put-lines-requires c κs =
-    let read = c .before .before .before .before .before .before .before in
-    let start = read .before .before .before .before .before .before in
-    rw (held-none (c .before .none .result) (c .before .none .ensures)) (simp (length-take, length-drop) (omega (arith, most start, start .pre .1, long read)))
+put-lines-requires c κs = search needs
 
 -- the lines behind the sheet are printed, and the last of them is held
 lines : (c : tie.After-put-lines)
@@ -146,7 +145,13 @@ lines c =
     let none = c .before .before in
     let numbers = none .before .before in
     let read = numbers .before .before .before .before in
-    rw (held-none (none .none .result) (none .none .ensures), behind read, numbers .numbers-of .ensures, sheet read) at (c .put-lines .ensures)
+    let a = read .before .before .before .before .before .before .args in
+    let r = readOf (heldIn (a .held)) in
+    let s = drop (r .used) (heldIn (a .held)) in
+    let put = rw (behind read, numbers .numbers-of .ensures, sheet read) at (c .put-lines .ensures) in
+    let empty = held-none (none .none .result) (none .none .ensures) in
+    rw empty at
+    (lines-put (numbersOf (r .sheet)) (none .none .result) s (a .out .now) 0 (rw empty (omega (arith, room read))) (c .put-lines .result) (c .put-lines .last .0) put)
 
 in-lines-requires : tie.Need-in-lines-requires
 in-lines-requires c κs =
@@ -175,7 +180,7 @@ returns-2 c =
     rw (decided-read (heldIn (a .held)) (a .rest .now) (start .pre .0) (rw (sheet read) at (numbers .before .if1 .left)))
     (went-both (numbersOf (r .sheet)) [] (drop (r .used) (heldIn (a .held))) (a .rest .now) (a .out .now) 0 (room read)
     (put .put-lines .result .end) (lines put .0 .1) (put .put-lines .result .held) (lines put .1)
-    (put .put-lines .last .0) (went .in-lines .result .look) (went .in-lines .result .end) (went .in-lines .last .0)
+    (put .put-lines .last .0) (went .in-lines .result) (went .in-lines .last .0)
     (lines put .0 .0) (rw n at (went .in-lines .ensures)))
 
 pub decide-spec : {M : Type 1} → statement M

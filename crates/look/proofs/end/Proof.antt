@@ -7,9 +7,11 @@ use borrow.Author.Needs.{needs}
 use native.Mathlib.Omega.{arith}
 use lib.ListN.{length}
 use Rattle.octets.proofs.Buffer.{length-putAt}
-use Rattle.look.specs.Steps.{heldIn, stateOf, lastText, decided, endOf}
+use Rattle.lines.specs.Pieces.{heldIn}
+use Rattle.lines.proofs.Laws.Held.{held-most}
+use Rattle.look.specs.Steps.{stateOf, lastText, decided, endOf}
 use Rattle.look.specs.Inner.{WentTo}
-use Rattle.look.proofs.Laws.Steps.{held-most, state-sheet}
+use Rattle.look.proofs.Laws.Steps.{state-sheet}
 use Rattle.look.proofs.Laws.Room.{end-behind, last-room, end-none, end-done, decided-leaves, decided-end}
 use Rattle.look.proofs.end.Statement.{statement}
 use Rattle.look.proofs.end.Tie as tie
@@ -52,7 +54,7 @@ decide-requires c κs = (inr refl, omega arith)
 -- the sheet is decided
 went : (c : tie.After-decide)
     → let a = c .before .before .before .before .before .before .before .args in
-    WentTo (decided (heldIn (a .look .held))) (a .out .now) 0 (c .decide .result .look) (c .decide .result .end) (c .decide .last .0)
+    WentTo (decided (heldIn (a .look .held))) (a .out .now) 0 (c .decide .result) (c .decide .last .0)
 went c = rw append-nil at (c .decide .ensures)
 
 put-end-requires-2 : tie.Need-put-end-requires-2
@@ -62,7 +64,7 @@ put-end-requires-2 c κs =
     let a = else1 .before .before .args in
     let w = went decide in
     let l : length (decide .decide .last .0) ≡ length (a .out .now) = ap length (w .put) ∙ length-putAt _ _ _ in
-    rw l (decided-leaves (heldIn (a .look .held)) (within else1) (a .out .now) (omega arith) _ _ _ w)
+    rw l (decided-leaves (heldIn (a .look .held)) (within else1) (a .out .now) (omega arith) _ _ w)
 
 same-length-2 : tie.Need-same-length-2
 same-length-2 c = search needs
@@ -75,7 +77,7 @@ returns-3 c =
     let else1 = told .before .before in
     let a = else1 .before .before .args in
     let e = state-sheet (a .look) (told .enum-told .given .1) in
-    let both = decided-end (heldIn (a .look .held)) (within else1) (a .out .now) (omega arith) _ _ _ (went decide) (put .result) (put .last .0) (put .ensures .0) (put .ensures .1) in
+    let both = decided-end (heldIn (a .look .held)) (within else1) (a .out .now) (omega arith) _ _ (went decide) (put .result) (put .last .0) (put .ensures .0) (put .ensures .1) in
     end-done (a .look) (a .out .now) (omega arith) (put .result) (put .last .0) (rw e (both .0)) (rw e (both .1)) (rw e (both .2))
 
 pub end-spec : {M : Type 1} → statement M

@@ -1,6 +1,8 @@
 -- `look::in_lines` meets its contract: what is printed and what is kept are those of the lines. Assumes nothing.
 use borrow.Author.Needs.{needs}
-use Rattle.look.specs.Steps.{fed, lookAs, linesText}
+use native.Mathlib.Omega.{arith}
+use Rattle.lines.proofs.Laws.Pieces.{lines-put}
+use Rattle.look.specs.Steps.{fed, lookAs}
 use Rattle.look.proofs.in_lines.Statement.{statement}
 use Rattle.look.proofs.in_lines.Tie as tie
 
@@ -11,10 +13,12 @@ same-length : tie.Need-same-length
 same-length c = search needs
 
 returns : tie.Need-returns
-unfolding fed lookAs linesText
+unfolding fed lookAs
 returns c =
-    let e = c .before .before .before .put-lines .ensures in
-    record { kept = rw (e .1); past = e .0 .1; put = e .0 .0 }
+    let put = c .before .before .before in
+    let a = put .before .before .before .before .args in
+    let e = lines-put (a .numbers) (a .held) (a .piece .now) (a .out .now) (a .at) (omega arith) (put .put-lines .result) (put .put-lines .last .0) (put .put-lines .ensures) in
+    record { done = rw (e .1, e .0 .1); put = e .0 .0 }
 
 pub in-lines-spec : {M : Type 1} → statement M
 in-lines-spec = tie.close (tie.spec put-lines-requires same-length returns)

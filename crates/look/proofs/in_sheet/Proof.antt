@@ -1,6 +1,6 @@
 -- `look::in_sheet` meets its contract: a piece that leaves room is held, and one that fills it up decides the sheet, its rest behind what is
 -- held. Assumes nothing.
-use mathlib.Core.Path.{_≡_, refl, sym, ap, _∙_}
+use mathlib.Core.Path.{_≡_, sym, ap, _∙_}
 use mathlib.Core.Logic.{inl}
 use mathlib.Core.List.{_++_}
 use Prim.Native.Nat.{_+_, _-_, _≤_}
@@ -9,9 +9,10 @@ use native.Mathlib.Omega.{arith}
 use lib.ListN.{length, take, drop, length-append, length-drop}
 use lib.Seq.{length-take-le, take-all}
 use Rattle.octets.proofs.Buffer.{putAt-nil}
-use Rattle.look.specs.Steps.{heldIn, lookAs}
-use Rattle.look.proofs.Laws.Pieces.{held-back}
-use Rattle.look.proofs.Laws.Steps.{held-most, step-held, step-decides, full-rest}
+use Rattle.lines.specs.Pieces.{heldIn}
+use Rattle.lines.proofs.Laws.Held.{held-back, held-most}
+use Rattle.look.specs.Steps.{lookAs}
+use Rattle.look.proofs.Laws.Steps.{step-held, step-decides, full-rest}
 use Rattle.look.proofs.in_sheet.Statement.{statement}
 use Rattle.look.proofs.in_sheet.Tie as tie
 
@@ -36,7 +37,7 @@ returns c =
     let fits : length t + length (a .piece .now) ≤ 1023 = omega (arith, within (c .before .before)) in
     let all : take 1024 (t ++ a .piece .now) ≡ t ++ a .piece .now = take-all 1024 (t ++ a .piece .now) (rw length-append (omega arith)) in
     rw (step-held t (a .piece .now) (omega arith))
-    (record { kept = rw (c .before .with .ensures, all); past = refl; put = sym (putAt-nil _ _) })
+    (record { done = rw (c .before .with .ensures, all); put = sym (putAt-nil _ _) })
 
 sub-decide : tie.Need-sub-decide
 sub-decide c = search needs

@@ -1,8 +1,12 @@
 -- `look::put_end` meets its contract: only behind a sheet that was read is there a last line. Assumes nothing.
 use mathlib.Core.Path.{sym}
 use borrow.Author.Needs.{needs}
+use lib.ListN.{length}
 use native.Mathlib.Omega.{arith}
 use Rattle.octets.proofs.Buffer.{putAt-nil}
+use Rattle.shown.specs.Line.{lineRoom}
+use Rattle.shown.proofs.Laws.Fits.{fitting-whole}
+use Rattle.lines.specs.Pieces.{heldIn, lastLine}
 use Rattle.look.specs.Steps.{lastText}
 use Rattle.look.proofs.Laws.Steps.{state-sheet, state-lines, state-refused}
 use Rattle.look.proofs.put_end.Statement.{statement}
@@ -28,7 +32,13 @@ same-length : tie.Need-same-length
 same-length c = search needs
 
 returns-2 : tie.Need-returns-2
-returns-2 c = rw (state-lines (c .before .before .before .before .before .before .before .args .look) (c .before .before .before .before .enum-told2 .given .1)) (c .before .before .put-last .ensures)
+unfolding lastText
+returns-2 c =
+    let told = c .before .before .before .before in
+    let a = told .before .before .before .args in
+    let line = heldIn (a .look .held) in
+    rw (state-lines (a .look) (told .enum-told2 .given .1))
+    (rw (fitting-whole (lineRoom line) (length (a .out .now)) (a .at) (lastLine (a .look .numbers) line) (omega arith)) at (c .before .before .put-last .ensures))
 
 returns-3 : tie.Need-returns-3
 unfolding lastText
