@@ -2,9 +2,9 @@
 // number and place (four each), the buffer itself, and what was written as it reads back, where something was.
 use super::message;
 use super::number::part;
-use super::reply::MOST;
 use super::reply::Reply;
-use super::value;
+use asked::MOST;
+use asked::NUMBERS;
 use sheet::Refusal;
 use sheet::Sheet;
 use writing::Writing;
@@ -14,7 +14,7 @@ ghost use Prim.Native.Nat.{_≤_};
 pub const ROOM: usize = MOST - 16;
 
 // Where the octets begin that the message's names lie in.
-pub const NAMES: usize = value::ROWS + message::LENGTH + 4;
+pub const NAMES: usize = NUMBERS + message::LENGTH + 4;
 
 const NOT_REFUSED: Refusal = Refusal { number: 0, at: 0 };
 
@@ -50,8 +50,8 @@ fn put_writing(sheet: Sheet, writing: Writing, buffer: &[u8; ROOM], room: usize)
 pub fn write(body: &[u8], room: usize) -> Reply
     requires { ⌜ room ≤ 956 ⌝ }
 {
-    let sheet = value::sheet_in(body);
-    let message = message::message_in(part(body, value::ROWS, body.len()));
+    let sheet = asked::sheet_in(body);
+    let message = message::message_in(part(body, NUMBERS, body.len()));
     let names = part(body, NAMES, body.len());
     let mut buffer = filled();
     let writing = writing::write(sheet, message, names, &mut buffer[0..room]);

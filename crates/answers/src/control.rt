@@ -9,7 +9,7 @@ use super::value;
 use incoming::Offered;
 use reception::Answer;
 use reception::Event;
-use reception::What;
+use rows::event;
 use sheet::Sheet;
 use writing::Writing;
 ghost use Prim.Native.Nat.{_≤_};
@@ -17,38 +17,23 @@ ghost use Prim.Native.Nat.{_≤_};
 // How many octets an event takes.
 pub const EVENT: usize = 12;
 
-fn end_response(ack: bool) -> u32
-    ensures { λ r. ⌜ r ≤ 0x6010000 ⌝ }
-{
-    if ack { 0x5000001 } else { 0x5000000 }
-}
-
-// What happens, as four octets: what, 0, by, Ack asked.
-fn what_word(what: What) -> u32
-    ensures { λ r. ⌜ r ≤ 0x6010000 ⌝ }
-{
-    match what {
-        What::Request(by) => 0x1000000 + (by as u32) * 256,
-        What::End(by) => 0x2000000 + (by as u32) * 256,
-        What::Open => 0x3000000,
-        What::T11 => 0x4000000,
-        What::EndResponse(ack) => end_response(ack),
-        What::Release => 0x6000000,
-    }
-}
-
 // An event, as four octets: what, stream, by, Ack asked.
-fn event_word(event: Event) -> u32 {
-    let what = event.what;
-    let word = what_word(what);
-    word + (event.stream as u32) * 65536
+fn event_octets(event: Event) -> [u8; 4] {
+    let mut row = [0u32; 4];
+    event::put_event(&mut row, event);
+    [
+        (row[0] % 256) as u8,
+        (row[1] % 256) as u8,
+        (row[2] % 256) as u8,
+        (row[3] % 256) as u8,
+    ]
 }
 
-// The refusal's number and place, and the event, zeros where there is none.
-fn offered_row(offered: Offered) -> [u32; 3] {
+// Puts the refusal's number and place, and the event, zeros where there is none.
+fn put_offered(reply: Reply, offered: Offered) -> Reply {
     match offered {
-        Offered::Event(event) => [0, 0, event_word(event)],
-        Offered::Refused(refusal) => [refusal.number, refusal.at, 0],
+        Offered::Event(event) => reply.numbers(&[0, 0]).octets(&event_octets(event)),
+        Offered::Refused(refusal) => reply.numbers(&[refusal.number, refusal.at, 0]),
     }
 }
 
@@ -57,7 +42,7 @@ fn offered_row(offered: Offered) -> [u32; 3] {
 pub fn event(reply: Reply, sheet: Sheet, body: &[u8], rest: &[u8]) -> Reply {
     let users = value::users_in(body);
     let offered = incoming::event_of(sheet, users, part(rest, 2, counted(rest)));
-    reply.numbers(&offered_row(offered))
+    put_offered(reply, offered)
 }
 
 // An answer by its number, in the order of reception's.
@@ -105,7 +90,7 @@ fn sent(body: &[u8], room: usize) -> Reply
     let stream = octet_at(body, value::LENGTH);
     let number = octet_at(body, value::LENGTH + 1);
     let answer = answer_numbered(number, octets::u16_at(body, value::LENGTH + 2));
-    let sheet = value::sheet_in(body);
+    let sheet = asked::sheet_in(body);
     let users = value::users_in(body);
     let mut buffer = buffer::filled();
     let sending = outgoing::packet_of(sheet, users, stream, answer, &mut buffer[0..room]);

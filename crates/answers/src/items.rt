@@ -4,13 +4,11 @@ use super::message;
 use super::number::part;
 use super::question;
 use super::question::counted;
-use super::reply::MOST;
 use super::reply::Reply;
-use super::schedule;
 use super::step;
-use super::stream;
 use super::value;
-use reception::Streams;
+use asked::MOST;
+use asked::NUMBERS;
 use sheet::Sheet;
 ghost use Prim.Native.Nat.{_≤_};
 
@@ -22,11 +20,11 @@ struct Form {
 }
 
 fn form_of(asked: u8, body: &[u8]) -> Form
-    ensures { λ r. ⌜ (r .start ≤ 65537) × (r .size ≤ 24) × (r .most ≤ 85) ⌝ }
+    ensures { λ r. ⌜ (r .start ≤ 65537) × (r .size ≤ 8) × (r .most ≤ 85) ⌝ }
 {
     match asked {
         6 => Form {
-            start: value::ROWS,
+            start: NUMBERS,
             size: 2,
             most: MOST / message::LENGTH,
         },
@@ -34,21 +32,6 @@ fn form_of(asked: u8, body: &[u8]) -> Form
             start: counted(body),
             size: 8,
             most: MOST / (2 * step::LENGTH),
-        },
-        9 => Form {
-            start: value::ROWS,
-            size: schedule::SEEN_EVENT,
-            most: MOST / stream::SAID,
-        },
-        11 => Form {
-            start: schedule::START,
-            size: schedule::SCHEDULE,
-            most: MOST / schedule::SCHEDULE_SAID,
-        },
-        12 => Form {
-            start: schedule::START,
-            size: schedule::ATTEMPT,
-            most: MOST / schedule::STEP_SAID,
         },
         13 => Form {
             start: value::LENGTH,
@@ -64,21 +47,11 @@ fn form_of(asked: u8, body: &[u8]) -> Form
 }
 
 // Puts what is said of the item at the front of the rest of a body.
-fn put_item(
-    asked: u8,
-    reply: Reply,
-    sheet: Sheet,
-    records: Streams,
-    body: &[u8],
-    rest: &[u8],
-) -> Reply {
+fn put_item(asked: u8, reply: Reply, sheet: Sheet, body: &[u8], rest: &[u8]) -> Reply {
     match asked {
         6 => question::packet(reply, sheet, rest),
         7 => question::field(reply, body, rest),
-        9 => schedule::attempt(reply, sheet, rest),
-        11 => schedule::play(reply, sheet, records, rest),
-        13 => control::event(reply, sheet, body, rest),
-        _ => schedule::store(reply, sheet, records, rest),
+        _ => control::event(reply, sheet, body, rest),
     }
 }
 
@@ -94,8 +67,7 @@ fn more(asked: u8, rest: &[u8]) -> usize
 }
 
 pub fn each(asked: u8, body: &[u8]) -> Reply {
-    let sheet = value::sheet_in(body);
-    let records = stream::records_in(body);
+    let sheet = asked::sheet_in(body);
     let form = form_of(asked, body);
     let mut reply = Reply::empty();
     let mut at = form.start;
@@ -105,7 +77,7 @@ pub fn each(asked: u8, body: &[u8]) -> Reply {
         if rest.len() < form.size {
             break;
         }
-        reply = put_item(asked, reply, sheet, records, body, rest);
+        reply = put_item(asked, reply, sheet, body, rest);
         at += form.size + more(asked, rest);
         left -= 1;
     }

@@ -29,7 +29,7 @@ pub fn read(text: &[u8]) -> Reply {
 
 // 2: whether some sheet reads to a value's numbers; and to the whole value.
 pub fn valid(body: &[u8]) -> Reply {
-    let sheet = value::sheet_in(body);
+    let sheet = asked::sheet_in(body);
     let whole = seats::valid_with(sheet, &value::users_in(body));
     Reply::empty()
         .octet(sheet::valid(sheet) as u8)
@@ -38,7 +38,7 @@ pub fn valid(body: &[u8]) -> Reply {
 
 // 3: whose SSRC it is that follows a value.
 pub fn by_ssrc(body: &[u8]) -> Reply {
-    let sheet = value::sheet_in(body);
+    let sheet = asked::sheet_in(body);
     let ssrcs = sheet.ssrcs;
     let senders = Senders {
         seats: sheet.seats,
@@ -53,7 +53,7 @@ pub fn by_user(body: &[u8]) -> Reply {
     if body.len() < value::LENGTH {
         return Reply::empty();
     }
-    let sheet = value::sheet_in(body);
+    let sheet = asked::sheet_in(body);
     let users = value::users_in(body);
     let name = part(body, value::LENGTH, body.len());
     seat(seats::find::by_user(sheet.seats, &users, name))

@@ -1,8 +1,6 @@
 // An answer as it is made, from its front on. An octet that has no room is left out.
+use asked::MOST;
 use sheet::Refusal;
-
-// The most octets that an answer has.
-pub const MOST: usize = 1020;
 
 pub struct Reply {
     pub octets: [u8; MOST],
@@ -26,11 +24,16 @@ impl Reply {
         self
     }
 
+    // A number of eight octets.
+    pub fn count(self, n: usize) -> Reply {
+        let high = (n / 4294967296) as u32;
+        let low = (n % 4294967296) as u32;
+        self.numbers(&[high, low])
+    }
+
     // How many octets were read or written (eight octets), and the refusal's number and place (four each).
     pub fn result(self, count: usize, refusal: Refusal) -> Reply {
-        let high = (count / 4294967296) as u32;
-        let low = (count % 4294967296) as u32;
-        self.numbers(&[high, low, refusal.number, refusal.at])
+        self.count(count).numbers(&[refusal.number, refusal.at])
     }
 
     // Many at once, with no copy of what is there for each.

@@ -6,29 +6,8 @@ use fields::field::Step;
 // How many octets that takes.
 pub const LENGTH: usize = 40;
 
-fn high(n: usize) -> u32 {
-    (n / 4294967296) as u32
-}
-
-fn low(n: usize) -> u32 {
-    (n % 4294967296) as u32
-}
-
 fn row(reply: Reply, a: usize, b: usize, c: usize, d: usize, e: usize) -> Reply {
-    reply.numbers(
-        &[
-            high(a),
-            low(a),
-            high(b),
-            low(b),
-            high(c),
-            low(c),
-            high(d),
-            low(d),
-            high(e),
-            low(e),
-        ],
-    )
+    reply.count(a).count(b).count(c).count(d).count(e)
 }
 
 // Puts what a step says.

@@ -13,6 +13,8 @@
 //!     second look make SEED COUNT DIR
 //!     second sample cases > crates/answers/stdin
 //!     second sample answers > crates/answers/stdout
+//!     second reception sample cases > crates/schedules/stdin
+//!     second reception sample answers > crates/schedules/stdout
 //!     second sample bench > samples/bench.txt
 //!     second sample every > samples/every.txt
 
@@ -51,7 +53,7 @@ use wire::Case;
 
 const USAGE: &str = "second [reception|controller|face] make SEED ROUNDS | \
     [reception|controller|face] compare SEED ROUNDS | face time CALL INPUTS ROUNDS | look | look make SEED COUNT DIR | \
-    sample cases | sample answers | sample bench | sample every";
+    [reception] sample cases | [reception] sample answers | sample bench | sample every";
 
 /// Every case about sheets and packets that is thought of, then so many rounds of cases by chance.
 fn cases(seed: u64, rounds: usize) -> Vec<Case> {
@@ -98,6 +100,8 @@ fn run_on<C: Asked>(words: &[&str], cases: fn(u64, usize) -> Vec<C>) -> Option<i
 /// Does what the words ask, if they ask something; false where answers differ or the cases show too little.
 fn run(words: &[&str]) -> Option<io::Result<bool>> {
     match words {
+        ["reception", "sample", "cases"] => Some(print_cases(sample::each(&reception::sample::cases()).into_iter())),
+        ["reception", "sample", "answers"] => Some(print(&asked::answer_octets(&reception::sample::cases()))),
         ["reception", words @ ..] => run_on(words, reception::cases),
         ["controller", words @ ..] => run_on(words, controller::cases),
         ["face", "make", seed, rounds] => {

@@ -4,7 +4,6 @@ use crate::asked::{self, Asked};
 use crate::bench::{self, s_with, S};
 use crate::controller::sample as controller;
 use crate::packet::Message;
-use crate::reception::sample as reception;
 use crate::sheet::Sheet;
 use crate::wire::Case;
 
@@ -69,23 +68,18 @@ pub fn cases() -> Vec<Case> {
 }
 
 /// Cases by their octets.
-fn each<C: Asked>(cases: Vec<C>) -> Vec<Vec<u8>> {
+pub fn each<C: Asked>(cases: &[C]) -> Vec<Vec<u8>> {
     cases.iter().map(Asked::octets).collect()
 }
 
-/// Every question, each case by its octets: those above, and behind them those of reception and of the controller.
+/// Every question of `answers`, each case by its octets: those above, and behind them those of the controller.
 pub fn octets() -> Vec<Vec<u8>> {
-    [each(cases()), each(reception::cases()), each(controller::cases())].concat()
+    [each(&cases()), each(&controller::cases())].concat()
 }
 
 /// The answers to all of them.
 pub fn answer_octets() -> Vec<u8> {
-    [
-        asked::answer_octets(&cases()),
-        asked::answer_octets(&reception::cases()),
-        asked::answer_octets(&controller::cases()),
-    ]
-    .concat()
+    [asked::answer_octets(&cases()), asked::answer_octets(&controller::cases())].concat()
 }
 
 #[cfg(test)]
@@ -93,16 +87,20 @@ mod tests {
     use super::*;
     use crate::wire::WRITTEN;
 
-    fn file(name: &str) -> Vec<u8> {
-        std::fs::read(format!("{}/../../crates/answers/{name}", env!("CARGO_MANIFEST_DIR"))).unwrap()
+    /// Whether the files of a program have these cases and answers.
+    fn is_run_on(program: &str, cases: Vec<Vec<u8>>, answers: Vec<u8>) -> bool {
+        let folder = format!("{}/../../crates/{program}", env!("CARGO_MANIFEST_DIR"));
+        let file = |name: &str| std::fs::read(format!("{folder}/{name}")).unwrap();
+        let mut written = vec![];
+        asked::write_cases(&mut written, cases.into_iter()).unwrap();
+        written == file("stdin") && answers == file("stdout")
     }
 
     #[test]
-    fn the_program_is_run_on_these_cases() {
-        let mut written = vec![];
-        asked::write_cases(&mut written, octets().into_iter()).unwrap();
-        assert_eq!(written, file("stdin"));
-        assert_eq!(answer_octets(), file("stdout"));
+    fn the_programs_are_run_on_these_cases() {
+        let reception = crate::reception::sample::cases();
+        assert!(is_run_on("answers", octets(), answer_octets()));
+        assert!(is_run_on("schedules", each(&reception), asked::answer_octets(&reception)));
     }
 
     #[test]

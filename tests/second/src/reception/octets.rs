@@ -1,4 +1,4 @@
-//! Records, events, steps and what they say as octets, in the form of crates/answers/src/stream.rt.
+//! Records, events, steps and what they say as octets, in the form of crates/schedules/src/said.rt.
 
 use super::record::{Phase, Record, Records};
 use super::routines::{Said, Step};

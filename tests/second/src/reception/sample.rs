@@ -1,4 +1,4 @@
-//! The few cases about reception that the program `answers` is run on by itself.
+//! The few cases about reception that the program `schedules` is run on by itself: crates/schedules/stdin, and their answers in stdout.
 
 use super::families::{self, NO_EVENT, P13};
 use super::record::{watched, Record, ENDING, FREE, IDLE};

@@ -1,4 +1,4 @@
-//! What is asked about reception, questions 9 to 12, and the answers (crates/answers/src/schedule.rt).
+//! What is asked about reception, questions 9 to 12, and the answers (crates/schedules/src/question.rt).
 
 use super::octets;
 use super::record::{call_of, Record, Records};

@@ -5,16 +5,13 @@ use Rattle.answers.proofs.items.each.Statement.{statement}
 use Rattle.answers.proofs.items.each.Tie as tie
 
 abbrev Inv-loop : tie.InvT-loop
-Inv-loop asked body sheet records form reply₀ at₀ left₀ reply at left = at + 65559 * left ≤ 5638052
+Inv-loop asked body sheet form reply₀ at₀ left₀ reply at left = at + 65543 * left ≤ 5636692
 
 abbrev μ-loop : tie.MeasureT-loop
-μ-loop asked body sheet records form reply₀ at₀ left₀ reply at left = left
+μ-loop asked body sheet form reply₀ at₀ left₀ reply at left = left
 
 sheet-in-requires : tie.Need-sheet-in-requires Inv-loop μ-loop
 sheet-in-requires c κs = search needs
-
-records-in-requires : tie.Need-records-in-requires Inv-loop μ-loop
-records-in-requires c κs = search needs
 
 form-of-requires : tie.Need-form-of-requires Inv-loop μ-loop
 form-of-requires c κs = search needs
@@ -62,7 +59,6 @@ each-spec =
     Inv-loop
     μ-loop
     sheet-in-requires
-    records-in-requires
     form-of-requires
     empty-requires
     loop-holds
