@@ -1,5 +1,6 @@
 pub mod Packets
 pub mod Line
+pub mod Rows
 pub mod Values
 pub mod Widths
 pub mod Fits

@@ -1,20 +1,18 @@
 // The ten values of a message, and their text (document 01, "Bench program").
 use super::decimal;
 use super::least;
-use packet::Head;
-use packet::Indicator;
 use packet::Message;
-use packet::Name;
-use packet::Verdict;
+use packet::row;
+use packet::row::NONE;
+use packet::row::row_of;
 ghost use mathlib.Core.Path.{_≡_};
 ghost use Prim.Native.Nat.{_+_, _-_, _≤_, _<_};
-ghost use mathlib.Core.List.{[], _∷_, map};
+ghost use mathlib.Core.List.{[], map};
 ghost use lib.ListN.{length, getD, take, drop};
-ghost use Rattle.octets.specs.Choice.{pick};
 ghost use Rattle.kinds.specs.Judge.{Held};
-ghost use Rattle.packet.specs.Message.{nameSaid, indicatorSaid, resultSaid, causeSaid, messageSaid};
+ghost use Rattle.packet.specs.Message.{messageSaid};
 ghost use Rattle.shown.specs.Line.{valueText, labels};
-ghost use Rattle.shown.specs.Inner.{valueSaid, tenSaid, entryText, valuesFrom};
+ghost use Rattle.shown.specs.Inner.{valueSaid, tenSaid, numberHeld, nameHeld, entryText, valuesFrom};
 ghost use Rattle.shown.specs.Promises.{Put};
 
 // Nothing, a number, or a name by its place in the packet and its length.
@@ -55,160 +53,52 @@ fn given(n: u32) -> Value
     }
 }
 
-fn named(name: Name) -> Value
-    ensures { λ r. ⌜ valueSaid r ≡ nameSaid name ⌝ }
+// A number of a row.
+fn number(n: u32) -> Value
+    ensures { λ r. ⌜ valueSaid r ≡ numberHeld n ⌝ }
 {
-    Value {
-        form: Form::Named,
-        n: name.at,
-        len: name.len,
+    if n == NONE { absent() } else { given(n) }
+}
+
+// A name of a row, where its kind has one.
+fn name(has: bool, at: u32, len: u32) -> Value
+    ensures { λ r. ⌜ valueSaid r ≡ nameHeld has at len ⌝ }
+{
+    if has {
+        Value {
+            form: Form::Named,
+            n: at,
+            len,
+        }
+    } else {
+        absent()
     }
 }
 
-fn indicated(indicator: Indicator) -> Value
-    ensures { λ r. ⌜ valueSaid r ≡ indicatorSaid indicator ⌝ }
-{
-    match indicator {
-        Indicator::Absent => absent(),
-        Indicator::Given(n) => given(n as u32),
-    }
-}
+// Where in a row the lengths of names stand.
+const USER_LENGTH: usize = row::USER + 1;
 
-fn result_of(verdict: Verdict) -> Value
-    ensures { λ r. ⌜ valueSaid r ≡ resultSaid verdict ⌝ }
-{
-    match verdict {
-        Verdict::Granted => given(1),
-        Verdict::Rejected(_) => given(0),
-    }
-}
-
-fn cause_of(verdict: Verdict) -> Value
-    ensures { λ r. ⌜ valueSaid r ≡ causeSaid verdict ⌝ }
-{
-    match verdict {
-        Verdict::Granted => absent(),
-        Verdict::Rejected(cause) => given(cause as u32),
-    }
-}
-
-// "kind, SSRC, Ack asked (0 or 1)", and seven values of fields.
-fn ten(
-    kind: u32,
-    head: Head,
-    user: Value,
-    transmitter: Value,
-    result: Value,
-    cause: Value,
-    indicator: Value,
-    origin: Value,
-    about: Value,
-) -> Ten
-    ensures { λ r. ⌜ map valueSaid r ≡ Held.given kind ∷ Held.given (head .ssrc) ∷ Held.given (pick (head .ack) 1 0) ∷ valueSaid user
-        ∷ valueSaid transmitter ∷ valueSaid result ∷ valueSaid cause ∷ valueSaid indicator ∷ valueSaid origin ∷ valueSaid about ∷ [] ⌝ }
-{
-    let ack = if head.ack { 1 } else { 0 };
-    [
-        given(kind),
-        given(head.ssrc),
-        given(ack),
-        user,
-        transmitter,
-        result,
-        cause,
-        indicator,
-        origin,
-        about,
-    ]
-}
+const NAMED_LENGTH: usize = row::NAMED + 1;
 
 // The ten values of a message.
 pub fn ten_of(message: Message) -> Ten
     ensures { λ r. ⌜ map valueSaid r ≡ tenSaid (messageSaid message) ⌝ }
 {
-    let no = absent();
-    match message {
-        Message::ReceiveRequest {
-            head,
-            user,
-            source,
-            indicator,
-        } => ten(
-            1,
-            head,
-            named(user),
-            named(source),
-            no,
-            no,
-            indicated(indicator),
-            no,
-            no,
-        ),
-        Message::ReceiveResponse {
-            head,
-            verdict,
-            indicator,
-        } => ten(
-            2,
-            head,
-            no,
-            no,
-            result_of(verdict),
-            cause_of(verdict),
-            indicated(indicator),
-            no,
-            no,
-        ),
-        Message::EndRequest {
-            head,
-            transmitter,
-            indicator,
-        } => ten(
-            3,
-            head,
-            no,
-            named(transmitter),
-            no,
-            no,
-            indicated(indicator),
-            no,
-            no,
-        ),
-        Message::EndResponse { head, transmitter } => {
-            ten(4, head, no, named(transmitter), no, no, no, no, no)
-        }
-        Message::TransmissionEnd {
-            head,
-            cause,
-            indicator,
-        } => ten(
-            5,
-            head,
-            no,
-            no,
-            no,
-            given(cause as u32),
-            indicated(indicator),
-            no,
-            no,
-        ),
-        Message::TransmissionEndResponse { head } => ten(6, head, no, no, no, no, no, no, no),
-        Message::Ack {
-            head,
-            source,
-            about,
-        } => ten(
-            7,
-            head,
-            no,
-            no,
-            no,
-            no,
-            no,
-            given(source as u32),
-            given(about as u32),
-        ),
-    }
+    let row = row_of(message);
+    let kind = row[row::KIND];
+    let names_one = (kind == 1) | (kind == 3) | (kind == 4);
+    [
+        given(kind),
+        given(row[row::SSRC]),
+        given(row[row::ACK]),
+        name(kind == 1, row[row::USER], row[USER_LENGTH]),
+        name(names_one, row[row::NAMED], row[NAMED_LENGTH]),
+        number(row[row::RESULT]),
+        number(row[row::CAUSE]),
+        number(row[row::INDICATOR]),
+        number(row[row::SOURCE]),
+        number(row[row::ABOUT]),
+    ]
 }
 
 // The octets of a packet that a value names.
