@@ -3,7 +3,7 @@
 use Prim.Native.Nat.{ℕ}
 use mathlib.Core.Bool.{Bool, _||_}
 use mathlib.Core.List.{List, [], _∷_, _++_, map}
-use lib.ListN.{getD, drop}
+use lib.ListN.{getD, take, drop}
 use lib.Dec.{eqb}
 use Rattle.octets.specs.Choice.{pick}
 use Rattle.sheet_line.specs.Line.{lf}
@@ -42,23 +42,21 @@ namesOne kind = (eqb kind 1 || eqb kind 3) || eqb kind 4
 unfoldable pub rowTen : List ℕ → List Held
 rowTen row =
     let kind = getD row 0 0 in
-    given kind ∷ given (getD row 1 0) ∷ given (getD row 2 0)
-    ∷ nameHeld (eqb kind 1) (getD row 3 0) (getD row 4 0)
-    ∷ nameHeld (namesOne kind) (getD row 5 0) (getD row 6 0)
-    ∷ map (λ (k : ℕ). numberHeld (getD row k 0)) (7 ∷ 8 ∷ 9 ∷ 10 ∷ 11 ∷ [])
+    map given (take 3 row)
+    ++ (nameHeld (eqb kind 1) (getD row 3 0) (getD row 4 0) ∷ nameHeld (namesOne kind) (getD row 5 0) (getD row 6 0) ∷ map numberHeld (drop 7 row))
 
 -- their texts
-abbrev pub textsOf : List ℕ → List Value → List (List ℕ)
-textsOf p ten = map (valueText p) (map valueSaid ten)
+abbrev pub textsOf : List ℕ → List ℕ → List (List ℕ)
+textsOf p row = map (valueText p) (rowTen row)
 
 -- the name and the text of the k-th
-unfoldable pub entryText : List ℕ → List Value → ℕ → List ℕ
-entryText p ten k = getD labels k [] ++ getD (textsOf p ten) k []
+unfoldable pub entryText : List ℕ → List ℕ → ℕ → List ℕ
+entryText p row k = getD labels k [] ++ getD (textsOf p row) k []
 
 -- those from the k-th on
-unfoldable pub valuesFrom : List ℕ → List Value → ℕ → List ℕ
-valuesFrom p ten k = labelled (drop k labels) (drop k (textsOf p ten))
+unfoldable pub valuesFrom : List ℕ → List ℕ → ℕ → List ℕ
+valuesFrom p row k = labelled (drop k labels) (drop k (textsOf p row))
 
 -- all of them, and an LF
-unfoldable pub tenLine : List ℕ → List Value → List ℕ
-tenLine p ten = valuesFrom p ten 0 ++ (lf ∷ [])
+unfoldable pub tenLine : List ℕ → List ℕ → List ℕ
+tenLine p row = valuesFrom p row 0 ++ (lf ∷ [])

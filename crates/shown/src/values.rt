@@ -1,18 +1,16 @@
 // The ten values of a message, and their text (document 01, "Bench program").
 use super::decimal;
 use super::least;
-use packet::Message;
 use packet::row;
 use packet::row::NONE;
-use packet::row::row_of;
+use packet::row::NUMBERS;
 ghost use mathlib.Core.Path.{_≡_};
 ghost use Prim.Native.Nat.{_+_, _-_, _≤_, _<_};
-ghost use mathlib.Core.List.{[], map};
+ghost use mathlib.Core.List.{[]};
 ghost use lib.ListN.{length, getD, take, drop};
 ghost use Rattle.kinds.specs.Judge.{Held};
-ghost use Rattle.packet.specs.Message.{messageSaid};
 ghost use Rattle.shown.specs.Line.{valueText, labels};
-ghost use Rattle.shown.specs.Inner.{valueSaid, tenSaid, numberHeld, nameHeld, entryText, valuesFrom};
+ghost use Rattle.shown.specs.Inner.{valueSaid, rowTen, numberHeld, nameHeld, entryText, valuesFrom};
 ghost use Rattle.shown.specs.Promises.{Put};
 
 // Nothing, a number, or a name by its place in the packet and its length.
@@ -30,8 +28,6 @@ pub struct Value {
 
 // How many values a message has.
 const TEN: usize = 10;
-
-pub type Ten = [Value; TEN];
 
 fn absent() -> Value
     ensures { λ r. ⌜ valueSaid r ≡ Held.absent ⌝ }
@@ -75,30 +71,33 @@ fn name(has: bool, at: u32, len: u32) -> Value
     }
 }
 
+// The value that is a transmitter's name, and how many places further than among the values those behind it stand in a row.
+const NAME: usize = row::USER + 1;
+
+const BEHIND: usize = 2;
+
 // Where in a row the lengths of names stand.
 const USER_LENGTH: usize = row::USER + 1;
 
 const NAMED_LENGTH: usize = row::NAMED + 1;
 
-// The ten values of a message.
-pub fn ten_of(message: Message) -> Ten
-    ensures { λ r. ⌜ map valueSaid r ≡ tenSaid (messageSaid message) ⌝ }
+// The k-th of the ten values of a message, from its row.
+fn value_in(row: [u32; NUMBERS], k: usize) -> Value
+    requires { ⌜ k < 10 ⌝ }
+    ensures { λ r. ⌜ valueSaid r ≡ getD (rowTen row) k Held.absent ⌝ }
 {
-    let row = row_of(message);
+    if k < row::USER {
+        return given(row[k]);
+    }
     let kind = row[row::KIND];
-    let names_one = (kind == 1) | (kind == 3) | (kind == 4);
-    [
-        given(kind),
-        given(row[row::SSRC]),
-        given(row[row::ACK]),
-        name(kind == 1, row[row::USER], row[USER_LENGTH]),
-        name(names_one, row[row::NAMED], row[NAMED_LENGTH]),
-        number(row[row::RESULT]),
-        number(row[row::CAUSE]),
-        number(row[row::INDICATOR]),
-        number(row[row::SOURCE]),
-        number(row[row::ABOUT]),
-    ]
+    if k == row::USER {
+        return name(kind == 1, row[row::USER], row[USER_LENGTH]);
+    }
+    if k == NAME {
+        let names_one = (kind == 1) | (kind == 3) | (kind == 4);
+        return name(names_one, row[row::NAMED], row[NAMED_LENGTH]);
+    }
+    number(row[k + BEHIND])
 }
 
 // The octets of a packet that a value names.
@@ -176,46 +175,46 @@ fn put_entry(
     at: usize,
     name: [u8; WIDEST],
     len: usize,
-    ten: Ten,
+    row: [u32; NUMBERS],
     k: usize,
     packet: &[u8],
 ) -> usize
-    requires { ⌜ (k < 10) × (len ≤ 11) × (take len name ≡ getD labels k []) × (at + length (valuesFrom (now packet) ten k) ≤ length (now out)) ⌝ }
-    ensures { λ r. ⌜ Put (entryText (now (packet .entry)) ten k) (now (out .entry)) at r (now (out .exit))
-        × (r + length (valuesFrom (now (packet .entry)) ten (k + 1)) ≤ length (now (out .exit))) ⌝ }
+    requires { ⌜ (k < 10) × (len ≤ 11) × (take len name ≡ getD labels k []) × (at + length (valuesFrom (now packet) row k) ≤ length (now out)) ⌝ }
+    ensures { λ r. ⌜ Put (entryText (now (packet .entry)) row k) (now (out .entry)) at r (now (out .exit))
+        × (r + length (valuesFrom (now (packet .entry)) row (k + 1)) ≤ length (now (out .exit))) ⌝ }
 {
     octets::put_octets(out, at, &name[..len]);
-    put_value(out, at + len, ten[k], packet)
+    put_value(out, at + len, value_in(row, k), packet)
 }
 
 // How many octets the values' text has: of ten values of less than 2^32 octets each and their names.
-pub fn length_of(ten: Ten, packet: &[u8]) -> usize
-    ensures { λ r. ⌜ (r ≡ length (valuesFrom (now (packet .entry)) ten 0)) × (r < 42949673030) ⌝ }
+pub fn length_of(row: [u32; NUMBERS], packet: &[u8]) -> usize
+    ensures { λ r. ⌜ (r ≡ length (valuesFrom (now (packet .entry)) row 0)) × (r < 42949673030) ⌝ }
 {
     let mut length = NAMES;
     let mut k = 0;
     while k < TEN {
-        length += value_length(ten[k], packet);
+        length += value_length(value_in(row, k), packet);
         k += 1;
     }
     length
 }
 
 // Puts the values' text at a place, and gives the place past it. Each name is a constant, which is faster than a table of them.
-pub fn put(out: &mut [u8], at: usize, ten: Ten, packet: &[u8]) -> usize
-    requires { ⌜ at + length (valuesFrom (now packet) ten 0) ≤ length (now out) ⌝ }
-    ensures { λ r. ⌜ Put (valuesFrom (now (packet .entry)) ten 0) (now (out .entry)) at r (now (out .exit)) ⌝ }
+pub fn put(out: &mut [u8], at: usize, row: [u32; NUMBERS], packet: &[u8]) -> usize
+    requires { ⌜ at + length (valuesFrom (now packet) row 0) ≤ length (now out) ⌝ }
+    ensures { λ r. ⌜ Put (valuesFrom (now (packet .entry)) row 0) (now (out .entry)) at r (now (out .exit)) ⌝ }
 {
     let mut end = at;
-    end = put_entry(out, end, KIND, 5, ten, 0, packet);
-    end = put_entry(out, end, SSRC, 6, ten, 1, packet);
-    end = put_entry(out, end, ACK, 5, ten, 2, packet);
-    end = put_entry(out, end, USER, 6, ten, 3, packet);
-    end = put_entry(out, end, NAMED, 7, ten, 4, packet);
-    end = put_entry(out, end, RESULT, 8, ten, 5, packet);
-    end = put_entry(out, end, CAUSE, 7, ten, 6, packet);
-    end = put_entry(out, end, INDICATOR, 11, ten, 7, packet);
-    end = put_entry(out, end, ORIGIN, 8, ten, 8, packet);
-    end = put_entry(out, end, ABOUT, 7, ten, 9, packet);
+    end = put_entry(out, end, KIND, 5, row, 0, packet);
+    end = put_entry(out, end, SSRC, 6, row, 1, packet);
+    end = put_entry(out, end, ACK, 5, row, 2, packet);
+    end = put_entry(out, end, USER, 6, row, 3, packet);
+    end = put_entry(out, end, NAMED, 7, row, 4, packet);
+    end = put_entry(out, end, RESULT, 8, row, 5, packet);
+    end = put_entry(out, end, CAUSE, 7, row, 6, packet);
+    end = put_entry(out, end, INDICATOR, 11, row, 7, packet);
+    end = put_entry(out, end, ORIGIN, 8, row, 8, packet);
+    end = put_entry(out, end, ABOUT, 7, row, 9, packet);
     end
 }

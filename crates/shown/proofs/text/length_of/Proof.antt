@@ -2,7 +2,7 @@
 use native.Mathlib.Omega.{arith}
 use lib.ListN.{length-append}
 use Rattle.shown.specs.Line.{numberLine, textOf}
-use Rattle.shown.proofs.Laws.Values.{textOf-ten, length-tenLine}
+use Rattle.shown.proofs.Laws.Values.{textOf-row, length-tenLine}
 use borrow.Author.Needs.{needs}
 use Rattle.shown.proofs.text.length_of.Statement.{statement}
 use Rattle.shown.proofs.text.length_of.Tie as tie
@@ -10,8 +10,8 @@ use Rattle.shown.proofs.text.length_of.Tie as tie
 enum-known-reading : tie.Need-enum-known-reading
 enum-known-reading c = search needs
 
-ten-of-requires : tie.Need-ten-of-requires
-ten-of-requires c κs = search needs
+row-of-requires : tie.Need-row-of-requires
+row-of-requires c κs = search needs
 
 length-of-requires : tie.Need-length-of-requires
 length-of-requires c κs = search needs
@@ -35,8 +35,8 @@ returns : tie.Need-returns
 returns c =
     let m = c .before .before .before .reading .given in
     let start = c .before .before .before .before .before .before in
-    let ten = c .before .ten-of in
-    rw (m .1, textOf-ten (start .args .packet .now) (m .0 .0) (ten .result) (ten .ensures), length-tenLine) (omega arith)
+    let ten = c .before .row-of in
+    rw (m .1, textOf-row (start .args .packet .now) (m .0 .0) (ten .result) (ten .ensures), length-tenLine) (omega arith)
 
 returns-2 : tie.Need-returns-2
 unfolding textOf numberLine
@@ -48,7 +48,7 @@ length-of-spec =
     tie.close
     (tie.spec
     enum-known-reading
-    ten-of-requires
+    row-of-requires
     length-of-requires
     add-result
     enum-known-reading-2

@@ -1,6 +1,6 @@
 -- `shown::text::put` meets its contract: the line of ten values, or the refusal on a line. Assumes nothing.
 use Rattle.shown.specs.Line.{numberLine, textOf}
-use Rattle.shown.proofs.Laws.Values.{textOf-ten}
+use Rattle.shown.proofs.Laws.Values.{textOf-row}
 use borrow.Author.Needs.{needs}
 use Rattle.shown.proofs.text.put.Statement.{statement}
 use Rattle.shown.proofs.text.put.Tie as tie
@@ -8,15 +8,15 @@ use Rattle.shown.proofs.text.put.Tie as tie
 enum-known-reading : tie.Need-enum-known-reading
 enum-known-reading c = search needs
 
-ten-of-requires : tie.Need-ten-of-requires
-ten-of-requires c κs = search needs
+row-of-requires : tie.Need-row-of-requires
+row-of-requires c κs = search needs
 
 put-ten-requires : tie.Need-put-ten-requires
 put-ten-requires c κs =
     let start = c .before .before .before .before .before .before .before in
     let m = c .before .before .before .reading .given in
-    let ten = c .ten-of in
-    rw (← textOf-ten (start .args .packet .now) (m .0 .0) (ten .result) (ten .ensures)) (rw (m .1) at (start .pre))
+    let ten = c .row-of in
+    rw (← textOf-row (start .args .packet .now) (m .0 .0) (ten .result) (ten .ensures)) (rw (m .1) at (start .pre))
 
 enum-known-reading-2 : tie.Need-enum-known-reading-2
 enum-known-reading-2 c = search needs
@@ -35,8 +35,8 @@ returns : tie.Need-returns
 returns c =
     let start = c .before .before .before .before .before .before .before .before .before .before in
     let m = c .before .before .before .before .before .before .reading .given in
-    let ten = c .before .before .before .ten-of in
-    rw (m .1, textOf-ten (start .args .packet .now) (m .0 .0) (ten .result) (ten .ensures)) (c .before .before .put-ten .ensures)
+    let ten = c .before .before .before .row-of in
+    rw (m .1, textOf-row (start .args .packet .now) (m .0 .0) (ten .result) (ten .ensures)) (c .before .before .put-ten .ensures)
 
 same-length-2 : tie.Need-same-length-2
 same-length-2 c = search needs
@@ -50,7 +50,7 @@ put-spec =
     tie.close
     (tie.spec
     enum-known-reading
-    ten-of-requires
+    row-of-requires
     put-ten-requires
     enum-known-reading-2
     slice-aggregate-put-line

@@ -11,20 +11,17 @@ use Rattle.shown.proofs.values.length_of.Statement.{statement}
 use Rattle.shown.proofs.values.length_of.Tie as tie
 
 abbrev Inv-loop : tie.InvT-loop
-Inv-loop packet ten length₀ k₀ sum k =
-    (k ≤ 10) × (sum + length (valuesFrom packet ten k) ≡ length (valuesFrom packet ten 0) + namesFrom k) × (sum ≤ 70 + k * 4294967295)
+Inv-loop row packet length₀ k₀ sum k =
+    (k ≤ 10) × (sum + length (valuesFrom packet row k) ≡ length (valuesFrom packet row 0) + namesFrom k) × (sum ≤ 70 + k * 4294967295)
 
 abbrev μ-loop : tie.MeasureT-loop
-μ-loop packet ten length₀ k₀ sum k = 10 - k
+μ-loop row packet length₀ k₀ sum k = 10 - k
 
 loop-holds : tie.Need-loop-holds Inv-loop μ-loop
 loop-holds c = (omega arith, rw namesFrom-all (omega arith), omega arith)
 
-mul-value-length : tie.Need-mul-value-length Inv-loop μ-loop
-mul-value-length c = search needs
-
-array-copy-out-value-length : tie.Need-array-copy-out-value-length Inv-loop μ-loop
-array-copy-out-value-length c = search needs
+value-in-requires : tie.Need-value-in-requires Inv-loop μ-loop
+value-in-requires c κs = search needs
 
 value-length-requires : tie.Need-value-length-requires Inv-loop μ-loop
 value-length-requires c κs = search needs
@@ -43,16 +40,17 @@ loop-again c =
     let at-loop = c .before .before .before in
     let args = at-loop .before .before .args in
     let k = at-loop .loop .k in
-    let n : length (args .t1) ≡ 10 = omega arith in
+    let n : length (args .row) ≡ 12 = omega arith in
     let names = namesFrom-next k (omega arith) in
-    let texts = length-valuesFrom-next (args .packet .now) (args .t1) k (omega arith) n in
+    let text = rw (c .before .value-in .ensures) at (c .value-length .ensures .0) in
+    let texts = length-valuesFrom-next (args .packet .now) (args .row) k (omega arith) n in
     (omega arith, omega arith, omega arith)
 
 returns : tie.Need-returns Inv-loop μ-loop
 returns c =
     let args = c .before .before .before .args in
     let e : c .before .loop .k ≡ 10 = omega arith in
-    let i = rw (e, valuesFrom-none (args .packet .now) (args .t1), namesFrom-none) at (c .before .loop .inv .1) in
+    let i = rw (e, valuesFrom-none (args .packet .now) (args .row), namesFrom-none) at (c .before .loop .inv .1) in
     (omega arith, omega arith)
 
 pub length-of-spec : {M : Type 1} → statement M
@@ -62,8 +60,7 @@ length-of-spec =
     Inv-loop
     μ-loop
     loop-holds
-    mul-value-length
-    array-copy-out-value-length
+    value-in-requires
     value-length-requires
     add-length
     add-k

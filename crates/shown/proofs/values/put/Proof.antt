@@ -41,13 +41,13 @@ put-entry-requires-9 c κs = search needs
 put-entry-requires-10 : tie.Need-put-entry-requires-10
 put-entry-requires-10 c κs = search needs
 
-are-ten : (start : tie.Start) → length (start .args .ten) ≡ 10
+are-ten : (start : tie.Start) → length (start .args .row) ≡ 12
 are-ten start = omega arith
 
 -- all of them are put
 all : (c10 : tie.After-put-entry10)
     → let a = c10 .before .before .before .before .before .before .before .before .before .before .before .before .before .before .before .before .before .before .before .before .before .before .before .before .before .before .before .before .before .before .before .before .before .before .before .before .before .before .before .before .args in
-    Put (valuesFrom (a .packet .now) (a .ten) 0) (a .out .now) (a .at) (c10 .put-entry10 .result) (c10 .put-entry10 .last .0)
+    Put (valuesFrom (a .packet .now) (a .row) 0) (a .out .now) (a .at) (c10 .put-entry10 .result) (c10 .put-entry10 .last .0)
 all c10 =
     let c9 = c10 .before .before .before .before in
     let c8 = c9 .before .before .before .before in
@@ -60,7 +60,7 @@ all c10 =
     let c1 = c2 .before .before .before .before in
     let start = c1 .before .before .before .before in
     let p = start .args .packet .now in
-    let ten = start .args .ten in
+    let ten = start .args .row in
     let n = are-ten start in
     let put =
     from-entry p ten 0 (omega arith) n (start .pre) (c1 .put-entry .ensures .0)

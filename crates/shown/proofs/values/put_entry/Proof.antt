@@ -27,20 +27,20 @@ module _ (c : tie.Start) where
   name = take (c .args .len) (c .args .t3)
 
   abbrev text : List ℕ
-  text = textAt (c .args .packet .now) (c .args .t5) (c .args .k)
+  text = textAt (c .args .packet .now) (c .args .row) (c .args .k)
 
   named : length name ≡ c .args .len
   named = length-take-le (c .args .len) (c .args .t3) (omega arith)
 
-  entry : entryText (c .args .packet .now) (c .args .t5) (c .args .k) ≡ name ++ text
-  entry = entryText-at (c .args .packet .now) (c .args .t5) (c .args .k) (omega arith) (omega arith) ∙ rw (c .pre .2)
+  entry : entryText (c .args .packet .now) (c .args .row) (c .args .k) ≡ name ++ text
+  entry = entryText-at (c .args .packet .now) (c .args .row) (c .args .k) (omega arith) (omega arith) ∙ rw (c .pre .2)
 
   -- there is room for both and for the values behind them
-  room : c .args .at + c .args .len + length text + length (valuesFrom (c .args .packet .now) (c .args .t5) (c .args .k + 1)) ≤ length (c .args .out .now)
+  room : c .args .at + c .args .len + length text + length (valuesFrom (c .args .packet .now) (c .args .row) (c .args .k + 1)) ≤ length (c .args .out .now)
   room =
-      let next = valuesFrom-next (c .args .packet .now) (c .args .t5) (c .args .k) (omega arith) (omega arith) in
-      let both : length (valuesFrom (c .args .packet .now) (c .args .t5) (c .args .k))
-      ≡ length name + length text + length (valuesFrom (c .args .packet .now) (c .args .t5) (c .args .k + 1)) =
+      let next = valuesFrom-next (c .args .packet .now) (c .args .row) (c .args .k) (omega arith) (omega arith) in
+      let both : length (valuesFrom (c .args .packet .now) (c .args .row) (c .args .k))
+      ≡ length name + length text + length (valuesFrom (c .args .packet .now) (c .args .row) (c .args .k + 1)) =
       rw (next, entry, length-append, length-append) in
       omega (arith, named, c .pre .3)
 
@@ -50,16 +50,13 @@ put-octets-requires c κs = search needs
 add-put-value : tie.Need-add-put-value
 add-put-value c = search needs
 
-mul-put-value : tie.Need-mul-put-value
-mul-put-value c = search needs
-
-array-copy-out-put-value : tie.Need-array-copy-out-put-value
-array-copy-out-put-value c = search needs
+value-in-requires : tie.Need-value-in-requires
+value-in-requires c κs = search needs
 
 put-value-requires : tie.Need-put-value-requires
 put-value-requires c κs =
     let start = c .before .before .before .before .before .before .before .before .before in
-    rw (c .before .before .before .before .put-octets .ensures, length-putAt) (omega (arith, room start))
+    rw (c .value-in .ensures, c .before .before .before .before .put-octets .ensures, length-putAt) (omega (arith, room start))
 
 same-length : tie.Need-same-length
 same-length c = search needs
@@ -68,7 +65,7 @@ returns : tie.Need-returns
 returns c =
     let start = c .before .before .before .before .before .before .before .before .before .before .before .before in
     let a = start .args in
-    let value = c .before .before .put-value .ensures in
+    let value = rw (c .before .before .before .value-in .ensures) at (c .before .before .put-value .ensures) in
     let both =
     put-both (a .out .now) (a .at) (name start) (text start) _ (a .at + a .len) _ _
     (c .before .before .before .before .before .before .before .put-octets .ensures) (omega (arith, named start)) (value .0) (value .1) (omega (arith, room start)) in
@@ -82,8 +79,7 @@ put-entry-spec =
     slice-aggregate-put-octets
     put-octets-requires
     add-put-value
-    mul-put-value
-    array-copy-out-put-value
+    value-in-requires
     put-value-requires
     same-length
     returns)
