@@ -2,8 +2,10 @@
 use mathlib.Core.Path.{refl}
 use Rattle.octets.specs as octets
 use Rattle.sheet.specs as sheet
+use Rattle.sheet_line.specs as sheet-line
 use Rattle.sheet_text.specs as sheet-text
 use Rattle.fields.specs as fields
+use Rattle.kinds.specs as kinds
 use Rattle.packet.specs as packet
 use Rattle.plan.specs as plan
 use Rattle.writing.specs as writing
@@ -28,8 +30,8 @@ pub bench-holds : Bench
 unfolding bench sheetWith usersS lib.Count.ones
     mathlib.Core.List.flatten
     octets.Text.decimal octets.Hex.hexValue octets.Hex.hexDigit octets.Hex.isHex octets.Hex.hexOctets octets.Buffer.padded octets.Big.bigAt octets.Big.bigOf
-    sheet.Table.table sheet.Table.seatRow sheet.Table.numberLines sheet.Table.seatsLine sheet.Table.mostSeats sheet.Table.rowAt sheet-text.Line.tailOf sheet-text.Line.textFrom sheet-text.Line.textOf
-    sheet-text.Line.lineOf sheet-text.Line.digitsAfter sheet-text.Line.nameAfter sheet-text.Line.entryIn sheet.Judge.taken sheet.Judge.goodNumber sheet.Judge.userId
+    sheet.Table.table sheet.Table.seatRow sheet.Table.numberLines sheet.Table.seatsLine sheet.Table.mostSeats sheet.Table.rowAt sheet-line.Line.tailOf sheet-text.Text.textFrom sheet-text.Text.textOf
+    sheet-line.Line.lineOf sheet-line.Line.digitsAfter sheet-line.Line.nameAfter sheet-line.Line.entryIn sheet.Judge.taken sheet.Judge.goodNumber sheet.Judge.userId
     sheet.Judge.goodName sheet.Judge.good sheet.Judge.inTurn sheet.Judge.whole sheet.Judge.valid sheet-text.Reading.goodLine sheet-text.Reading.behind
     sheet-text.Reading.readBy sheet-text.Reading.outcome sheet.Value.sheetBy sheet.Value.sheetFrom sheet.Value.sheetOf sheet.Value.rowOf sheet.Value.usersOf
     sheet.Value.numbersOf sheet.Value.nameOf sheet.Value.seatEntries sheet.Value.entriesOf sheet.Value.sameRows sheet.Value.validWith
@@ -38,12 +40,12 @@ unfolding bench sheetWith usersS lib.Count.ones
     fields.Header.sizeRight fields.Header.versionRight fields.Header.headRight fields.Header.ackAsked fields.Header.numberIn fields.Header.ssrcIn
     fields.Header.lettersIn fields.Walk.toWord fields.Walk.valueEnd fields.Walk.nextAt fields.Walk.zeros fields.Walk.padding fields.Walk.fieldRight
     fields.Walk.fieldAt fields.Walk.valueOf fields.Walk.fieldsBy fields.Walk.stopBy fields.Walk.fieldsFrom fields.Walk.stopFrom fields.Walk.fieldsOf
-    fields.Walk.whole fields.Layout.laid fields.Layout.laidAll packet.Kind.kinds packet.Kind.hasKind packet.Kind.kindOf packet.Kind.settled
-    packet.Kind.slotsOf packet.Kind.mayLack packet.Kind.mayHave packet.Kind.isResult packet.Kind.grants packet.Kind.numbersOf packet.Judge.numberAt
-    packet.Judge.fits packet.Judge.heldIn packet.Judge.fieldsWith packet.Judge.slotsWith packet.Judge.grantIn packet.Judge.granted
-    packet.Judge.formFor packet.Judge.atFault packet.Judge.faultAmong packet.Judge.filledBehind packet.Judge.filledIn packet.Judge.isAbsent
-    packet.Judge.lacking packet.Judge.missingAt packet.Judge.firstOf packet.Judge.faultOf packet.Judge.heldBy packet.Reading.slotsIn
-    packet.Reading.messageOf packet.Reading.readAs packet.Reading.readBy packet.Reading.readOf
+    fields.Walk.whole fields.Layout.laid fields.Layout.laidAll kinds.Kind.kinds kinds.Kind.hasKind kinds.Kind.kindOf kinds.Kind.settled
+    kinds.Kind.slotsOf kinds.Kind.mayLack kinds.Kind.mayHave kinds.Kind.isResult kinds.Kind.grants kinds.Kind.numbersOf kinds.Judge.numberAt
+    kinds.Judge.fits kinds.Judge.heldIn kinds.Judge.fieldsWith kinds.Judge.slotsWith kinds.Judge.grantIn kinds.Judge.granted
+    kinds.Judge.formFor kinds.Judge.atFault kinds.Judge.faultAmong kinds.Judge.filledBehind kinds.Judge.filledIn kinds.Judge.isAbsent
+    kinds.Judge.lacking kinds.Judge.missingAt kinds.Judge.firstOf kinds.Judge.faultOf kinds.Judge.heldBy kinds.Reading.slotsIn
+    kinds.Reading.messageOf kinds.Reading.readAs kinds.Reading.readBy kinds.Reading.readOf
     packet.Meaning.valueIn packet.Meaning.meaning plan.Packet.holds plan.Packet.isNothing plan.Packet.takes plan.Packet.takesAll
     plan.Packet.isOne plan.Packet.writable plan.Packet.octetsFor plan.Packet.contentsFor plan.Packet.firstOctet plan.Packet.header
     plan.Packet.withHeader plan.Packet.packetAs plan.Packet.kindWith plan.Packet.packetOf writing.Writing.roomFor
