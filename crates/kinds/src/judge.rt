@@ -5,6 +5,7 @@ use super::kind::SLOTS;
 use super::kind::Slots;
 use fields::codes::FIRST_FIELD;
 use fields::walk::size_of;
+use octets::u16_of;
 use seats::user::is_user_id;
 ghost use mathlib.Core.Path.{_≡_};
 ghost use mathlib.Core.Bool.{_&&_};
@@ -40,7 +41,7 @@ pub fn is_granted(packet: &[u8], kind: u32, resultid: u32) -> bool
             if packet[at + 1] != 2 {
                 return false;
             }
-            return octets::u16_at(packet, at + 2) == 1;
+            return u16_of(packet[at + 2], packet[at + 3]) == 1;
         }
         at += size_of(packet[at + 1]);
     }
@@ -59,7 +60,7 @@ fn fits(packet: &[u8], at: usize, form: Form) -> bool
         Form::Number => len == 2,
         Form::Cause => 2 <= len,
         Form::Result => if len == 2 {
-            octets::u16_at(packet, value) <= 1
+            u16_of(packet[value], packet[value + 1]) <= 1
         } else {
             false
         },

@@ -27,6 +27,11 @@ pub bigAt-one : (s : List ℕ) (at : ℕ) → bigAt 1 s at ≡ getD s at 0
 unfolding bigAt
 bigAt-one s at = rw add-zero (omega arith)
 
+-- two octets of a slice, taken by themselves
+pub bigAt-two : (s : List ℕ) (at : ℕ) → bigAt 2 (getD s at 0 ∷ getD s (at + 1) 0 ∷ []) 0 ≡ bigAt 2 s at
+unfolding bigAt
+bigAt-two s at = rw add-zero refl
+
 -- nothing stands at or past the end
 pub bigAt-end : (w : ℕ) (s : List ℕ) (at : ℕ) → length s ≤ at → bigAt w s at ≡ 0
 unfolding bigAt

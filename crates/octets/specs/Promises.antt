@@ -2,7 +2,7 @@
 -- afterwards, meets. Beside it, NAME-once: no second answer meets it. Assumes nothing.
 use mathlib.Core.Path.{_≡_, sym, _∙_}
 use Prim.Native.Nat.{ℕ}
-use mathlib.Core.List.{List}
+use mathlib.Core.List.{List, [], _∷_}
 use Rattle.octets.specs.Big.{bigAt, bigOf}
 use Rattle.octets.specs.Buffer.{putAt}
 
@@ -14,6 +14,13 @@ one-answer said apart x y p q = apart x y (p ∙ sym q)
 -- the same where the answer is set out as it is
 pub one-value {ℓ} : {A : Type ℓ} {a : A} (x y : A) → x ≡ a → y ≡ a → x ≡ y
 one-value x y p q = p ∙ sym q
+
+-- the 16-bit number of two octets
+abbrev pub u16-of≡ : ℕ → ℕ → ℕ → Type 0
+u16-of≡ high low r = r ≡ bigAt 2 (high ∷ low ∷ []) 0
+
+pub u16-of-once : (high low x y : ℕ) → u16-of≡ high low x → u16-of≡ high low y → x ≡ y
+u16-of-once high low x y p q = one-value x y p q
 
 -- the 16-bit number at a place
 abbrev pub u16-at≡ : List ℕ → ℕ → ℕ → Type 0

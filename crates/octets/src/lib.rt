@@ -1,13 +1,20 @@
 // Big-endian numbers read from a slice at a place and put into one (RFC 3550, 4), and octets put into one.
 ghost use mathlib.Core.Path.{_≡_};
 ghost use lib.ListN.{getD};
-ghost use Rattle.octets.specs.Promises.{u16-at≡, u32-at≡, put-u16≡, put-u32≡, put-octets≡};
+ghost use Rattle.octets.specs.Promises.{u16-of≡, u16-at≡, u32-at≡, put-u16≡, put-u32≡, put-octets≡};
 
 // The octet at a place, or 0 past the end.
 fn octet_at(s: &[u8], at: usize) -> u8
     ensures { λ r. ⌜ r ≡ getD (now (s .entry)) at 0 ⌝ }
 {
     if at < s.len() { s[at] } else { 0 }
+}
+
+// The 16-bit number of two octets.
+pub fn u16_of(high: u8, low: u8) -> u16
+    ensures { λ r. ⌜ u16-of≡ high low r ⌝ }
+{
+    (high as u16) * 256 + (low as u16)
 }
 
 // The 16-bit number at a place. An octet past the end counts as 0.
@@ -17,7 +24,7 @@ pub fn u16_at(s: &[u8], at: usize) -> u16
     if s.len() <= at {
         return 0;
     }
-    (s[at] as u16) * 256 + (octet_at(s, at + 1) as u16)
+    u16_of(s[at], octet_at(s, at + 1))
 }
 
 // The 32-bit number at a place. An octet past the end counts as 0.

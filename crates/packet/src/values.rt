@@ -20,7 +20,7 @@ fn number_at(packet: &[u8], at: usize) -> u16
     requires { ⌜ at + 4 ≤ length (now packet) ⌝ }
     ensures { λ r. ⌜ r ≡ bigAt 2 (now (packet .entry)) (at + 2) ⌝ }
 {
-    (packet[at + 2] as u16) * 256 + (packet[at + 3] as u16)
+    octets::u16_of(packet[at + 2], packet[at + 3])
 }
 
 // The name that is the value of the field at a place.
@@ -64,7 +64,7 @@ pub fn head_of(packet: &[u8]) -> Head
     ensures { λ r. ⌜ r ≡ headIn (now (packet .entry)) ⌝ }
 {
     Head {
-        ssrc: octets::u32_at(packet, 4),
+        ssrc: (number_at(packet, 2) as u32) * 65536 + (number_at(packet, 4) as u32),
         ack: packet[0] / 16 % 2 == 1,
     }
 }

@@ -5,6 +5,7 @@ use native.Mathlib.Omega.{arith}
 use lib.ListN.{length, getD}
 use borrow.Author.Needs.{needs}
 use borrow.Author.Tests.{eq-eqb, ne-eqb}
+use Rattle.octets.proofs.Big.{bigAt-two}
 use Rattle.fields.specs.Walk.{fieldAt, valueOf}
 use Rattle.fields.proofs.Laws.Walk.{right-inside}
 use Rattle.kinds.specs.Judge.{fits, numberAt}
@@ -55,8 +56,17 @@ enum-told-3 c = search needs
 enum-told-4 : tie.Need-enum-told-4
 enum-told-4 c = search needs
 
-u16-at-requires : tie.Need-u16-at-requires
-u16-at-requires c κs = search needs
+shared-slice-read-u16-of : tie.Need-shared-slice-read-u16-of
+shared-slice-read-u16-of c = omega (arith, inside (c .before .before .before .before .before .before))
+
+add-u16-of : tie.Need-add-u16-of
+add-u16-of c = omega (arith, inside (c .before .before .before .before .before .before))
+
+shared-slice-read-u16-of-2 : tie.Need-shared-slice-read-u16-of-2
+shared-slice-read-u16-of-2 c = omega (arith, inside (c .before .before .before .before .before .before .before))
+
+u16-of-requires : tie.Need-u16-of-requires
+u16-of-requires c κs = search needs
 
 enum-told-5 : tie.Need-enum-told-5
 enum-told-5 c = search needs
@@ -84,7 +94,10 @@ returns-3 c = rw (c .enum-told3 .given .1)
 
 returns-4 : tie.Need-returns-4
 unfolding fits fieldAt numberAt
-returns-4 c = rw (c .before .before .enum-told4 .given .1, c .u16-at .ensures, eq-eqb _ 2 (c .before .if1 .taken))
+returns-4 c =
+    let then1 = c .before .before .before in
+    let a = then1 .before .before .before .before .before .args in
+    rw (then1 .before .enum-told4 .given .1, c .u16-of .ensures, ← (bigAt-two (a .packet .now) (a .at + 2)), eq-eqb _ 2 (then1 .if1 .taken))
 
 returns-5 : tie.Need-returns-5
 unfolding fits fieldAt
@@ -119,7 +132,10 @@ fits-spec =
     enum-told-2
     enum-told-3
     enum-told-4
-    u16-at-requires
+    shared-slice-read-u16-of
+    add-u16-of
+    shared-slice-read-u16-of-2
+    u16-of-requires
     enum-told-5
     add-result
     shared-slice-read-result

@@ -3,12 +3,14 @@
 use mathlib.Core.Path.{_≡_, refl, sym, _∙_}
 use mathlib.Core.Bool.{_&&_}
 use Prim.Native.Nat.{_+_, _-_, _≤_}
+use native.Mathlib.Nat.{add-assoc}
 use native.Mathlib.Omega.{arith}
 use lib.ListN.{length, getD}
 use lib.Dec.{T, eqb}
 use borrow.Author.Needs.{needs}
 use borrow.Author.Tests.{eq-eqb, ne-eqb}
 use Rattle.octets.specs.Big.{bigAt}
+use Rattle.octets.proofs.Big.{bigAt-two}
 use Rattle.fields.specs.Walk.{nextAt, fieldRight, fieldsOf, fieldsFrom, stopFrom}
 use Rattle.fields.proofs.Laws.Walk.{next-size, whole-next, stopFrom-right, stopFrom-whole}
 use Rattle.kinds.specs.Judge.{granted}
@@ -66,14 +68,28 @@ shared-slice-read-if3 c = omega (arith, next-told (c .before .before .before))
 returns-2 : tie.Need-returns-2 Inv-loop μ-loop
 returns-2 c = rw (first-told (c .before .before), ne-eqb _ 2 (c .if3 .taken))
 
-add-u16-at : tie.Need-add-u16-at Inv-loop μ-loop
-add-u16-at c = omega (arith, next-told (c .before .before .before .before))
+add-u16-of : tie.Need-add-u16-of Inv-loop μ-loop
+add-u16-of c = omega (arith, next-told (c .before .before .before .before))
 
-u16-at-requires : tie.Need-u16-at-requires Inv-loop μ-loop
-u16-at-requires c κs = search needs
+shared-slice-read-u16-of : tie.Need-shared-slice-read-u16-of Inv-loop μ-loop
+shared-slice-read-u16-of c = omega (arith, next-told (c .before .before .before .before .before))
+
+add-u16-of-2 : tie.Need-add-u16-of-2 Inv-loop μ-loop
+add-u16-of-2 c = omega (arith, next-told (c .before .before .before .before .before))
+
+shared-slice-read-u16-of-2 : tie.Need-shared-slice-read-u16-of-2 Inv-loop μ-loop
+shared-slice-read-u16-of-2 c = omega (arith, next-told (c .before .before .before .before .before .before))
+
+u16-of-requires : tie.Need-u16-of-requires Inv-loop μ-loop
+u16-of-requires c κs = search needs
 
 returns-3 : tie.Need-returns-3 Inv-loop μ-loop
-returns-3 c = rw (first-told (c .before .before .before), eq-eqb _ 2 (c .before .if3 .left), c .u16-at .ensures)
+returns-3 c =
+    let else3 = c .before .before .before in
+    let then2 = else3 .before .before in
+    let in-loop = then2 .before .before in
+    let pair = bigAt-two (start in-loop .args .packet .now) (in-loop .before .loop .at + 2) in
+    rw (first-told then2, eq-eqb _ 2 (else3 .if3 .left), c .u16-of .ensures, sym pair, add-assoc)
 
 add-size-of : tie.Need-add-size-of Inv-loop μ-loop
 add-size-of c = omega (arith, next-told (c .before .before))
@@ -126,8 +142,11 @@ is-granted-spec =
     add-if3
     shared-slice-read-if3
     returns-2
-    add-u16-at
-    u16-at-requires
+    add-u16-of
+    shared-slice-read-u16-of
+    add-u16-of-2
+    shared-slice-read-u16-of-2
+    u16-of-requires
     returns-3
     add-size-of
     shared-slice-read-size-of
