@@ -1,8 +1,8 @@
 -- `look::decide` meets its contract: the sheet read from what is held is that of all that came, and what stands behind it in what is held
 -- and the rest of the piece are two pieces. Assumes nothing.
-use mathlib.Core.Path.{_≡_, sym, ap, _∙_}
-use mathlib.Core.List.{[]}
-use Prim.Native.Nat.{_+_, _-_, _*_, _≤_}
+use mathlib.Core.Path.{_≡_, sym, ap, _∙_, subst}
+use mathlib.Core.List.{List, []}
+use Prim.Native.Nat.{ℕ, _+_, _-_, _*_, _≤_}
 use borrow.Author.Needs.{needs}
 use native.Mathlib.Omega.{arith}
 use lib.ListN.{length, take, drop, length-drop}
@@ -15,6 +15,7 @@ use Rattle.shown.specs.Line.{sheetLine}
 use Rattle.shown.specs.Promises.{Put}
 use Rattle.shown.proofs.Laws.Fits.{fitting-whole}
 use Rattle.lines.specs.Pieces.{heldIn, heldOf, keptOf, leftFrom, linesText}
+use Rattle.lines.specs.Promises.{put-lines≡}
 use Rattle.lines.proofs.Laws.Held.{held-within, held-most, held-all, held-none}
 use Rattle.lines.proofs.Laws.Pieces.{lines-put}
 use Rattle.look.proofs.Laws.Pieces.{used-within}
@@ -148,7 +149,8 @@ lines c =
     let a = read .before .before .before .before .before .before .args in
     let r = readOf (heldIn (a .held)) in
     let s = drop (r .used) (heldIn (a .held)) in
-    let put = rw (behind read, numbers .numbers-of .ensures, sheet read) at (c .put-lines .ensures) in
+    let handed : List ℕ → Type 0 = λ piece. put-lines≡ (numbers .numbers-of .result) (none .none .result) piece (a .out .now) 0 (c .put-lines .result) (c .put-lines .last .0) in
+    let put = rw (numbers .numbers-of .ensures, sheet read) at (subst handed (behind read) (c .put-lines .ensures)) in
     let empty = held-none (none .none .result) (none .none .ensures) in
     rw empty at
     (lines-put (numbersOf (r .sheet)) (none .none .result) s (a .out .now) 0 (rw empty (omega (arith, room read))) (c .put-lines .result) (c .put-lines .last .0) put)

@@ -56,11 +56,17 @@ length-stored a rs (refuses number at) = refl
 
 -- ---- reading and working out
 
-pub read-rule : ReadRule
-unfolding readOf seenOf
-read-rule s stream rs =
+-- a legal record of a stream on a valid sheet is given
+legal-given : (s : Sheet) (stream : ℕ) (x : Record) → T (validAlone s) → T (onSheet (rulesOf s) stream) → T (legal (rulesOf s) stream x)
+    → seenOf s stream x ≡ gives x
+unfolding seenOf
+legal-given s stream x v on l =
     let q = rulesOf s in
-    (refl, λ v on l. rw (T-true (validAlone s) v, T-true (onSheet q stream) on, T-true (legal q stream (own rs stream)) l))
+    rw (T-true (validAlone s) v, T-true (onSheet q stream) on, T-true (legal q stream x) l)
+
+pub read-rule : ReadRule
+unfolding readOf
+read-rule s stream rs = (refl, legal-given s stream (own rs stream))
 
 pub work-rule : WorkRule
 unfolding workOf
