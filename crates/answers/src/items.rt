@@ -9,7 +9,7 @@ use asked::{MOST, NUMBERS};
 use sheet::Sheet;
 
 // Where the items begin, how many octets each has, and how many are answered at most. Of a packet the count's octets alone.
-#[derive(Drop)]
+#[derive(Clone, Copy)]
 struct Form {
     start: usize,
     size: usize,

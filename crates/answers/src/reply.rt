@@ -2,7 +2,7 @@
 use asked::MOST;
 use sheet::Refusal;
 
-#[derive(Drop)]
+#[derive(Clone, Copy)]
 pub struct Reply {
     pub octets: [u8; MOST],
     pub length: usize,

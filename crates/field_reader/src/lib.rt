@@ -1,4 +1,5 @@
 // A reader that remembers its packet and its place, and hands out one field at a time (document 01, "Packet").
+#![tactic(auto)]
 ghost use Rattle.std.specs.Prelude.{◌≡◌};
 ghost use Rattle.fields.specs.Walk.{step_of, step_said};
 ghost use Rattle.field_reader.specs.Reader.{refusal_of, start_of, moved_to};
@@ -10,35 +11,35 @@ use fields::header::failed_check;
 use sheet::Refusal;
 
 // A packet and a place in it. Only this crate makes one, or moves it.
-#[derive(Drop)]
+#[derive(Clone, Copy)]
 pub struct FieldReader<'a> {
     packet: &'a [u8],
     at: usize,
 }
 
 // A reader, and 0 for no refusal; or 1 or 2, and beside it a reader at octet 0, which hands out nothing.
-#[derive(Drop)]
+#[derive(Clone, Copy)]
 pub struct Made<'a> {
     pub reader: FieldReader<'a>,
     pub refusal: Refusal,
 }
 
 // What a step said, and the reader after it.
-#[derive(Drop)]
+#[derive(Clone, Copy)]
 pub struct Handed<'a> {
     pub reader: FieldReader<'a>,
     pub said: Step,
 }
 
 // Where a reader starts, and the refusal.
-#[derive(Drop)]
+#[derive(Clone, Copy)]
 struct Start {
     at: usize,
     refusal: Refusal,
 }
 
 // What a step said, and the place after it.
-#[derive(Drop)]
+#[derive(Clone, Copy)]
 struct Moved {
     at: usize,
     said: Step,

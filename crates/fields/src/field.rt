@@ -9,7 +9,7 @@ use super::walk::{size_of, walk};
 use sheet::Refusal;
 
 // A field: the place of its ID octet, its ID, the length of its value, which begins two octets on, and where the next field begins.
-#[derive(Drop)]
+#[derive(Clone, Copy)]
 pub struct Field {
     pub at: usize,
     pub id: u8,
@@ -18,7 +18,7 @@ pub struct Field {
 }
 
 // What a step says: the field at a place, the end, or a refusal.
-#[derive(Drop)]
+#[derive(Clone, Copy)]
 pub enum Step {
     Field(Field),
     End,

@@ -1,4 +1,5 @@
 // A packet on a line, in hex (document 01, "Bench program").
+#![tactic(auto)]
 ghost use Rattle.std.specs.Prelude.{◌≡◌, ◌<◌, T};
 ghost use Rattle.std.proofs.Math.Option.{none};
 ghost use Rattle.octets.specs.Hex.{hex_value, hex_digit};
@@ -9,7 +10,7 @@ ghost use Rattle.hex_line.specs.Promises.{packet_in≡};
 pub const MOST: usize = 256;
 
 // A packet's octets, zeros behind them, and how many they are; none where a line is not a packet's.
-#[derive(Drop)]
+#[derive(Clone, Copy)]
 pub struct Packet {
     pub octets: [u8; MOST],
     pub len: usize,

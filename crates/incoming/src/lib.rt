@@ -1,4 +1,5 @@
 // Which event a packet makes (document 01, "Stream record").
+#![tactic(auto)]
 mod event;
 
 ghost use Rattle.std.specs.Prelude.{◌≡◌};
@@ -11,7 +12,7 @@ use sheet::numbers::numbers_of;
 use sheet::{Refusal, Sheet, Users};
 
 // The event that a packet makes, or why it makes none.
-#[derive(Drop)]
+#[derive(Clone, Copy)]
 pub enum Offered {
     Event(Event),
     Refused(Refusal),

@@ -12,14 +12,14 @@ use octets::u16_of;
 use seats::user::is_user_id;
 
 // The place of the first field at fault, the packet's length where one is missing, or 0; and the fields in their slots.
-#[derive(Drop)]
+#[derive(Clone, Copy)]
 pub struct Judged {
     pub fault: usize,
     pub places: Places,
 }
 
 // What a field is for: a slot, or none that is open, or nothing that the message has.
-#[derive(Drop)]
+#[derive(Clone, Copy)]
 enum Use {
     Fills(usize),
     Repeats,

@@ -8,7 +8,7 @@ use super::Numbers;
 use super::codes::{INDICATOR, MCV0, MCV1, MCV2, MESSAGE_TYPE, REJECT_CAUSE, SOURCE, USER_ID};
 
 // The forms of a field's value. Nothing fits where it is barred.
-#[derive(Drop)]
+#[derive(Clone, Copy)]
 pub enum Form {
     UserId,
     Number,
@@ -19,7 +19,7 @@ pub enum Form {
 }
 
 // A place for a field in a message: the ID, the form of its value, and whether it must be there.
-#[derive(Drop)]
+#[derive(Clone, Copy)]
 pub struct Slot {
     pub id: u32,
     pub form: Form,

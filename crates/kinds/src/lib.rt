@@ -1,5 +1,6 @@
 // Which of the seven kinds of message a packet is, and where its fields stand (document 01, "Packet", and "Refusals": 1, 2, 3, 4 and 5, in that
 // order).
+#![tactic(auto)]
 pub mod codes;
 mod judge;
 mod kind;
@@ -11,7 +12,7 @@ ghost use Rattle.kinds.specs.Inner.{Walked, FoundIs};
 ghost use Rattle.kinds.specs.Promises.{found_by≡};
 
 // What the reader looks at of a sheet.
-#[derive(Drop)]
+#[derive(Clone, Copy)]
 pub struct Numbers {
     pub request: u32,
     pub response: u32,
@@ -27,7 +28,7 @@ pub struct Numbers {
 pub type Places = [usize; kind::SLOTS];
 
 // The refusal's number; or 0, the kind, and the places of its fields.
-#[derive(Drop)]
+#[derive(Clone, Copy)]
 pub struct Found {
     pub refusal: u32,
     pub kind: u32,

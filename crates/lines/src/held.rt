@@ -7,7 +7,7 @@ use shown::least;
 pub const MOST: usize = 1024;
 
 // The octets, zeros behind them, and how many they are.
-#[derive(Drop)]
+#[derive(Clone, Copy)]
 pub struct Held {
     pub octets: [u8; MOST],
     pub len: usize,

@@ -1,5 +1,6 @@
 // The lines in a piece of the input (document 01, "Bench program"): a line of text for each that ends in it, and what is held of one that does
 // not.
+#![tactic(auto)]
 mod ends;
 pub mod held;
 
@@ -17,7 +18,7 @@ use shown::{TIMES, least, line};
 const LINE: usize = 2 * hex_line::MOST + 1;
 
 // What is kept of a line that has not ended, and the place past what was printed.
-#[derive(Drop)]
+#[derive(Clone, Copy)]
 pub struct Kept {
     pub held: Held,
     pub end: usize,
@@ -31,7 +32,7 @@ pub fn has_room(out: usize, at: usize, octets: usize) -> bool
 }
 
 // The place past what was printed, and where the line begins that has not ended.
-#[derive(Drop)]
+#[derive(Clone, Copy)]
 struct Ended {
     end: usize,
     left: usize,

@@ -1,5 +1,6 @@
 // What `mcvlook` prints (document 01, "Bench program"): a call sheet and then packets in hex, one a line, come in pieces; out goes a line of
 // text for each packet. What is kept between two pieces is a value, and has the same size whatever came.
+#![tactic(auto)]
 ghost use Rattle.std.specs.Prelude.{◌≡◌, ◌⊎◌, [], ◌++◌, ◌+◌, ◌*◌, ◌≤◌, length};
 ghost use Rattle.shown.specs.Promises.{Put};
 ghost use Rattle.lines.specs.Pieces.{most_held, held_in};
@@ -14,7 +15,7 @@ use sheet::Refusal;
 use shown::{NO_ROOM, Printing, TIMES, line};
 
 // What the next piece goes on with: the sheet's text, lines, or nothing more, the sheet being refused.
-#[derive(Drop)]
+#[derive(Clone, Copy)]
 pub enum Phase {
     Sheet,
     Lines,
@@ -22,7 +23,7 @@ pub enum Phase {
 }
 
 // What is kept between two pieces: in the sheet its text so far, and then the sheet's numbers and the line so far.
-#[derive(Drop)]
+#[derive(Clone, Copy)]
 pub struct Look {
     phase: Phase,
     numbers: Numbers,
@@ -30,7 +31,7 @@ pub struct Look {
 }
 
 // What is kept then, and how many octets were printed; or 11 beside what was kept before.
-#[derive(Drop)]
+#[derive(Clone, Copy)]
 pub struct Stepped {
     pub look: Look,
     pub written: usize,

@@ -1,5 +1,6 @@
 // The bench program (document 01, "Bench program"): standard input is a call sheet and then packets in hex, one a line; standard output has a
 // line for each packet. It holds no rule of its own: what is printed is `look`'s.
+#![tactic(auto)]
 ghost use Rattle.std.specs.Prelude.{◌≡◌, ◌+◌, ◌≤◌, ◌<◌, length};
 ghost use Rattle.look.specs.Steps.{state_of, look_as, step_of, end_of};
 ghost use Rattle.mcvlook.specs.Gathered.{Gathers};
@@ -15,7 +16,7 @@ const PIECE: usize = 16384;
 const OUT: usize = 196608;
 
 // What is kept, how much output is gathered, and whether there is more to do.
-#[derive(Drop)]
+#[derive(Clone, Copy)]
 struct Turn {
     look: Look,
     gathered: usize,

@@ -1,4 +1,6 @@
 // Big-endian numbers read from a slice at a place and put into one (RFC 3550, 4), and octets put into one.
+#![tactic(auto)]
+
 ghost use Rattle.std.specs.Prelude.{◌≡◌, get_or};
 ghost use Rattle.octets.specs.Promises.{u16_of≡, u16_at≡, u32_at≡, put_u16≡, put_u32≡, put_octets≡};
 

@@ -1,4 +1,5 @@
 // Which packet an answer sends (document 01, "Stream record").
+#![tactic(auto)]
 mod answer;
 
 ghost use Rattle.sheet.specs.Value.{sheet_in};

@@ -1,4 +1,5 @@
 // RTCP APP packets of MCVideo (document 01, "Packet"; RFC 3550, 6.7), read as one of seven messages.
+#![tactic(auto)]
 pub mod row;
 mod values;
 
@@ -33,35 +34,35 @@ pub const NO_NUMBERS: Numbers = Numbers {
 };
 
 // What every message has: its sender's SSRC, and whether it asks for an Ack.
-#[derive(Drop)]
+#[derive(Clone, Copy)]
 pub struct Head {
     pub ssrc: u32,
     pub ack: bool,
 }
 
 // A User ID, by its place in the octets lent beside the message and its length.
-#[derive(Drop)]
+#[derive(Clone, Copy)]
 pub struct Name {
     pub at: u32,
     pub len: u32,
 }
 
 // The Transmission Indicator, which may be absent.
-#[derive(Drop)]
+#[derive(Clone, Copy)]
 pub enum Indicator {
     Absent,
     Given(u16),
 }
 
 // Result 1, or Result 0 with its Reject Cause.
-#[derive(Drop)]
+#[derive(Clone, Copy)]
 pub enum Verdict {
     Granted,
     Rejected(u16),
 }
 
 // The seven messages, in the order of document 01's kinds.
-#[derive(Drop)]
+#[derive(Clone, Copy)]
 pub enum Message {
     ReceiveRequest {
         head: Head,
@@ -99,7 +100,7 @@ pub enum Message {
 }
 
 // A message, or why there is none.
-#[derive(Drop)]
+#[derive(Clone, Copy)]
 pub enum Reading {
     Read(Message),
     Refused(Refusal),
@@ -107,7 +108,7 @@ pub enum Reading {
 
 // What a packet asks of the controller: of the kinds that make an event, what the event goes by; nothing, for a message of another kind; or why it is
 // no message.
-#[derive(Drop)]
+#[derive(Clone, Copy)]
 pub enum Asked {
     Request { ssrc: u32, user: Name, source: Name },
     End { ssrc: u32, transmitter: Name },

@@ -1,5 +1,6 @@
 // The packet that a message is written as, before an octet of it is put: the header's values and the fields, or why there is none (document 01,
 // "Packet"; RFC 3550, 6.7).
+#![tactic(auto)]
 mod messages;
 mod names;
 pub mod sizes;
@@ -13,7 +14,7 @@ use packet::Name;
 use packet::row::NUMBERS;
 
 // A field to be written: none, one that fills a word, or a User ID.
-#[derive(Drop)]
+#[derive(Clone, Copy)]
 pub enum Part {
     Absent,
     Word(u32),
@@ -21,7 +22,7 @@ pub enum Part {
 }
 
 // The first octet, the letters as one number, the SSRC, and the fields.
-#[derive(Drop)]
+#[derive(Clone, Copy)]
 pub struct Plan {
     pub start: u8,
     pub letters: u32,
@@ -32,7 +33,7 @@ pub struct Plan {
 }
 
 // The packet to write, or the number of the refusal.
-#[derive(Drop)]
+#[derive(Clone, Copy)]
 pub enum Planned {
     Packet(Plan),
     Refused(u32),

@@ -99,7 +99,7 @@ fn named(message: &[u32], at: usize) -> Part
 }
 
 // The fields of a message, in the order written.
-#[derive(Drop)]
+#[derive(Clone, Copy)]
 struct Fields {
     first: Part,
     second: Part,

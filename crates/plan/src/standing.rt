@@ -12,7 +12,7 @@ const PAIR_END: u32 = 65536;
 // ---- nothing stands where the kind has nothing
 
 // Where the names of a kind begin, which end where the numbers begin, and where its numbers begin and end.
-#[derive(Drop)]
+#[derive(Clone, Copy)]
 struct Span {
     names: usize,
     from: usize,

@@ -1,5 +1,6 @@
 // Reception control (document 01, "Three steps"): a record for each stream, and the three steps by which two routines share it: read, work
 // out, store. Records, events and answers are those of `streams`, handed on by their names.
+#![tactic(auto)]
 ghost use Rattle.std.specs.Prelude.{◌≡◌, ◌≤◌, length};
 ghost use Rattle.sheet.specs.Value.{sheet_from, sheet_in};
 ghost use Rattle.streams.specs.Record.{rules_of, own};
@@ -20,7 +21,7 @@ const SEATS: usize = 8;
 pub type Streams = [Record; SEATS];
 
 // What a store is to do: the stream's record as it was seen, as it is wanted, and the answer that is given once the store took.
-#[derive(Drop)]
+#[derive(Clone, Copy)]
 pub struct Attempt {
     pub stream: u8,
     pub seen: Record,
@@ -28,32 +29,32 @@ pub struct Attempt {
     pub answer: Answer,
 }
 
-#[derive(Drop)]
+#[derive(Clone, Copy)]
 pub enum Seen {
     Read(Record),
     Refused(Refusal),
 }
 
-#[derive(Drop)]
+#[derive(Clone, Copy)]
 pub enum Worked {
     Out(Attempt),
     Refused(Refusal),
 }
 
-#[derive(Drop)]
+#[derive(Clone, Copy)]
 pub enum Taking {
     Took(Answer),
     Refused(Refusal),
 }
 
 // The eight records after a store, and its answer.
-#[derive(Drop)]
+#[derive(Clone, Copy)]
 pub struct Stored {
     pub records: Streams,
     pub taking: Taking,
 }
 
-#[derive(Drop)]
+#[derive(Clone, Copy)]
 pub enum Counted {
     Count(u32),
     Refused(Refusal),
@@ -85,7 +86,7 @@ fn rules_in(numbers: &[u32]) -> Rules
 }
 
 // What a stream is judged by, if it is on the sheet.
-#[derive(Drop)]
+#[derive(Clone, Copy)]
 enum Admitted {
     Under(Rules),
     Refused(Refusal),

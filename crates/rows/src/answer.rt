@@ -29,7 +29,7 @@ const T6: u32 = 4;
 const T11: u32 = 8;
 
 // The answer that a row stands for.
-#[derive(Drop)]
+#[derive(Clone, Copy)]
 pub enum Answering {
     Answer(Answer),
     Nothing,

@@ -13,7 +13,7 @@ pub const GIVEN: usize = 5;
 const ATTEMPT: usize = GIVEN + ANSWER;
 
 // The attempt that a row stands for, if it stands for one with a seat and receivers that fit an octet.
-#[derive(Drop)]
+#[derive(Clone, Copy)]
 pub enum Trying {
     Attempt(Attempt),
     Nothing,

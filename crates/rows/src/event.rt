@@ -11,7 +11,7 @@ use reception::{Event, What};
 const EVENT: usize = 4;
 
 // The event that a row stands for, if it stands for one with seats that fit an octet.
-#[derive(Drop)]
+#[derive(Clone, Copy)]
 pub enum Eventing {
     Event(Event),
     Nothing,

@@ -13,7 +13,7 @@ const RECORD: usize = 2;
 const RECORDS: usize = 8 * RECORD;
 
 // The one record that octets are.
-#[derive(Drop)]
+#[derive(Clone, Copy)]
 pub enum Recording {
     Record(Record),
     Nothing,

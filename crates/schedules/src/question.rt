@@ -101,7 +101,7 @@ fn moved(sheet: Sheet, state: State, item: &[u8], next: u16) -> State {
 }
 
 // A row of an answer, and the state after its item.
-#[derive(Drop)]
+#[derive(Clone, Copy)]
 struct Row {
     state: State,
     octets: [u8; ROW],
@@ -139,7 +139,7 @@ fn row_of(state: State) -> Row {
 // ---- all items
 
 // Where the items begin, how many octets each has, and how many are said of it.
-#[derive(Drop)]
+#[derive(Clone, Copy)]
 struct Form {
     start: usize,
     size: usize,
@@ -198,7 +198,7 @@ fn records_of(body: &[u8]) -> Streams {
 }
 
 // An answer: behind its octets is room for what of a row is not said.
-#[derive(Drop)]
+#[derive(Clone, Copy)]
 pub struct Reply {
     pub octets: [u8; OUT],
     pub length: usize,

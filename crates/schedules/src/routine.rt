@@ -8,7 +8,7 @@ use sheet::Sheet;
 use streams::stream;
 
 // The eight records; the record that each of two routines holds, and its attempt; what was last said.
-#[derive(Drop)]
+#[derive(Clone, Copy)]
 pub struct State {
     pub records: Streams,
     pub seen: [Record; 2],

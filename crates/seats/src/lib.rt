@@ -1,4 +1,5 @@
 // The seats of a call sheet (document 01, "Call sheet"): their User IDs at fixed width, and whose SSRC and whose User ID it is.
+#![tactic(auto)]
 pub mod find;
 mod row;
 mod seat;
@@ -11,14 +12,14 @@ use sheet::numbers::{SEATS_LINE, are_valid};
 use sheet::{SEATS, Sheet, Users, valid};
 
 // What a search by SSRC looks at.
-#[derive(Drop)]
+#[derive(Clone, Copy)]
 pub struct Senders {
     pub seats: u32,
     pub ssrcs: [u32; SEATS],
 }
 
 // The seat that was looked for, counted from 0.
-#[derive(Drop)]
+#[derive(Clone, Copy)]
 pub enum Found {
     Seat(u8),
     Nobody,

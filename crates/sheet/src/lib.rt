@@ -1,4 +1,5 @@
 // The call sheet as a value (document 01, "Call sheet"): what each line may say.
+#![tactic(auto)]
 mod line;
 pub mod number;
 pub mod numbers;
@@ -7,7 +8,7 @@ mod table;
 ghost use Rattle.sheet.specs.Promises.{valid≡};
 
 // The numbers of the sheet, in the order of its lines, and the SSRC of each seat; an unused one is 0.
-#[derive(Drop)]
+#[derive(Clone, Copy)]
 pub struct Sheet {
     pub server: u32,
     pub limit: u32,
@@ -33,7 +34,7 @@ pub const WIDTH: usize = 60;
 pub type Users = [[u8; WIDTH]; SEATS];
 
 // Document 01's number of a refusal, 0 where there is none, and its place: the line for 12, else 0.
-#[derive(Drop)]
+#[derive(Clone, Copy)]
 pub struct Refusal {
     pub number: u32,
     pub at: u32,

@@ -5,7 +5,7 @@ ghost use Rattle.sheet.specs.Inner.{RuleOf, between};
 
 // The least and the greatest number on a line; its family, of which no two lines have the same number, and a line before
 // which none is of it.
-#[derive(Drop)]
+#[derive(Clone, Copy)]
 pub struct Rule {
     pub least: u64,
     pub greatest: u64,
@@ -14,7 +14,7 @@ pub struct Rule {
 }
 
 // A rule as a row of the table.
-#[derive(Drop)]
+#[derive(Clone, Copy)]
 struct Row(u64, u64, u8, usize);
 
 // The rule of line k, counted from 0.

@@ -3,7 +3,7 @@
 ghost use Rattle.sheet_line.specs.Inner.{KeyOf};
 
 // Where a line's key begins in KEYS, and where it ends.
-#[derive(Drop)]
+#[derive(Clone, Copy)]
 pub struct Key {
     pub from: usize,
     pub end: usize,

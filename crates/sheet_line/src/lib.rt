@@ -1,4 +1,5 @@
 // One line of a sheet as text (document 01, "Call sheet"): key, number, on a seat's line a comma and a User ID, then LF.
+#![tactic(auto)]
 mod key;
 
 ghost use Rattle.std.specs.Prelude.{◌≡◌, [], ◌∷◌, ◌+◌, ◌-◌, ◌<◌, ◌≤◌, min, length, take, drop};
@@ -19,7 +20,7 @@ const CAP: u64 = 4294967296;
 const LF: u8 = 10;
 
 // A line that was found: its number, as far as CAP, the place of its User ID and that of its LF; or that there is none.
-#[derive(Drop)]
+#[derive(Clone, Copy)]
 pub enum Line {
     Good {
         number: u64,
@@ -30,14 +31,14 @@ pub enum Line {
 }
 
 // Digits that were found: the number that they make, as far as CAP, and where they end.
-#[derive(Drop)]
+#[derive(Clone, Copy)]
 struct Decimal {
     number: u64,
     end: usize,
 }
 
 // What was found behind a number: the place of the User ID and that of the LF; or that it is not right.
-#[derive(Drop)]
+#[derive(Clone, Copy)]
 enum Rest {
     Good { name: usize, end: usize },
     Bad,

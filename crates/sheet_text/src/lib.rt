@@ -1,4 +1,5 @@
 // The call sheet read from text (document 01, "Call sheet").
+#![tactic(auto)]
 mod scan;
 
 ghost use Rattle.sheet_text.specs.Promises.{read_with≡, read≡, users≡};
@@ -6,7 +7,7 @@ ghost use Rattle.sheet_text.specs.Promises.{read_with≡, read≡, users≡};
 use sheet::{Refusal, SEATS, Sheet, Users, WIDTH};
 
 // A sheet and how many octets it took, or a refusal beside zeros.
-#[derive(Drop)]
+#[derive(Clone, Copy)]
 pub struct Reading {
     pub sheet: Sheet,
     pub used: usize,

@@ -1,5 +1,6 @@
 // What `mcvlook` prints for a line (document 01, "Bench program"): a packet in hex comes in, and out goes a line of text, its ten values or its
 // refusal; and the line for a sheet that is refused.
+#![tactic(auto)]
 mod decimal;
 pub mod line;
 pub mod print;
@@ -16,7 +17,7 @@ pub const TIMES: usize = 10;
 pub const NO_ROOM: Refusal = Refusal { number: 11, at: 0 };
 
 // How many octets of text were printed, or 11.
-#[derive(Drop)]
+#[derive(Clone, Copy)]
 pub enum Printing {
     Printed(usize),
     Refused(Refusal),

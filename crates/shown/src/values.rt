@@ -10,14 +10,14 @@ use packet::row;
 use packet::row::{NONE, NUMBERS};
 
 // Nothing, a number, or a name by its place in the packet and its length.
-#[derive(Drop)]
+#[derive(Clone, Copy)]
 pub enum Form {
     Absent,
     Given,
     Named,
 }
 
-#[derive(Drop)]
+#[derive(Clone, Copy)]
 pub struct Value {
     form: Form,
     n: u32,

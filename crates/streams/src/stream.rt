@@ -6,7 +6,7 @@ ghost use Rattle.streams.specs.Promises.{is_on≡, free≡, count_of≡, number_
 use super::{Phase, Record, receivers};
 
 // What the rules of reception look at on a sheet.
-#[derive(Drop)]
+#[derive(Clone, Copy)]
 pub struct Rules {
     pub limit: u32,
     pub seats: u32,

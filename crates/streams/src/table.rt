@@ -18,7 +18,7 @@ const NO_PERMISSION_TO_RECEIVE: u16 = 1;
 const NO_RECEIVING_PARTICIPANT: u16 = 8;
 
 // What becomes of a stream's record, and the answer.
-#[derive(Drop)]
+#[derive(Clone, Copy)]
 pub struct Change {
     pub becomes: Record,
     pub answer: Answer,

@@ -1,4 +1,5 @@
 // A message written as an RTCP APP packet of MCVideo (document 01, "Packet"; RFC 3550, 6.7).
+#![tactic(auto)]
 mod field_writer;
 mod front;
 
@@ -16,7 +17,7 @@ use sheet::Sheet;
 use sheet::numbers::are_valid;
 
 // How many octets were written, or the number of the refusal, which names no line and no place.
-#[derive(Drop)]
+#[derive(Clone, Copy)]
 pub enum Writing {
     Written(u32),
     Refused(u32),

@@ -1,0 +1,41 @@
+-- `kinds::judge::lacks` meets its contract. The invariant: a slot that must be filled is open exactly if one from i on is.
+-- Assumes nothing.
+use mathlib.Core.Path.{◌≡◌, refl, sym, ◌∙◌}
+use mathlib.Core.Logic.{⊎_elim}
+use Prim.Native.Nat.{◌-◌}
+use native.Mathlib.Omega.{arith}
+use lib.ListN.{length}
+use borrow.Author.Rules.{rules}
+use Rattle.kinds.proofs.Laws.Slots.{lack_in-end, lackIn-open, lackIn-filled, lackIn-free}
+use Rattle.kinds.proofs.judge.lacks.Goals as goal
+
+pub loop-i-init : goal.loop-i-init
+loop-i-init c = (omega arith, refl)
+
+pub returns-then-places-i-eq0 : goal.returns-then-places-i-eq0
+returns-then-places-i-eq0 c =
+    let a = c.args in
+    let i = c.loop-i.i in
+    let n : length a.t1 ≡ 3 = search rules in
+    let m : length a.t2 ≡ 3 = search rules in
+    sym (lackIn-open a.t1 a.t2 i (omega arith) (omega arith) c.if-slot.true c.if-places-i-eq0.true) ∙ c.loop-i.invariant.1
+
+pub loop-i-preserved : goal.loop-i-preserved
+loop-i-preserved c =
+    let a = c.args in
+    let i = c.loop-i.i in
+    let n : length a.t1 ≡ 3 = search rules in
+    let m : length a.t2 ≡ 3 = search rules in (
+      omega arith,
+      ⊎_elim
+          (λ w. sym (lackIn-filled a.t1 a.t2 i (omega arith) (omega arith) w.1.left))
+          (λ w. sym (lackIn-free a.t1 a.t2 i (omega arith) (omega arith) w.left))
+          c.if-slot.branch
+          ∙ c.loop-i.invariant.1,
+    )
+
+pub returns : goal.returns
+returns c =
+    let a = c.args in
+    let n : length a.t1 ≡ 3 = search rules in
+    sym (lack_in-end a.t1 a.t2 c.loop-i.i (omega arith)) ∙ c.loop-i.invariant.1

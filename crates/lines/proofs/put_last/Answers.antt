@@ -1,0 +1,28 @@
+-- `lines::put_last` meets its contract: what is held is the line that is begun. Assumes nothing.
+use mathlib.Core.Path.{sym}
+use native.Mathlib.Omega.{arith}
+use lib.Seq.{length-take-le}
+use Rattle.octets.proofs.Buffer.{put_at-nil}
+use Rattle.lines.specs.Pieces.{held_in}
+use Rattle.lines.proofs.Laws.Held.{held-within, held_all, last_none, last_some, fitting-nil}
+use Rattle.lines.proofs.put_last.Goals as goal
+
+pub returns-then-len-eq0 : goal.returns-then-len-eq0
+returns-then-len-eq0 c =
+    let a = c.args in
+    rw (last_none a.numbers (held_in a.held) (omega arith), fitting-nil) (sym (put_at-nil _ _), omega arith)
+
+pub slice_bounds-octets-end : goal.slice_bounds-octets-end
+slice_bounds-octets-end c = omega (arith, held-within c.args.held)
+
+pub slice_bounds-put-end : goal.slice_bounds-put-end
+slice_bounds-put-end c =
+    let held = c.args.held in
+    sym (length-take-le _ held.octets-1 (omega (arith, held-within held)))
+
+pub returns : goal.returns
+returns c =
+    let put = c.put in
+    let len = c.length_of-len.result in
+    let a = c.args in
+    rw (last_some a.numbers (held_in a.held) (λ z. omega arith)) (rw (held_all a.held len (omega arith)) at put.ensures)

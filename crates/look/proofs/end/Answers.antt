@@ -1,0 +1,68 @@
+-- `look::end` meets its contract: a sheet that was not decided is now, and then the last line is printed. Assumes nothing.
+use mathlib.Core.Path.{◌≡◌, refl, ap, ◌∙◌}
+use mathlib.Core.Logic.{⊎_elim, inr}
+use mathlib.Core.List.{append-nil}
+use Prim.Native.Nat.{◌≤◌}
+use borrow.Author.Rules.{rules}
+use native.Mathlib.Omega.{arith}
+use lib.ListN.{length}
+use Rattle.octets.proofs.Buffer.{length-put_at}
+use Rattle.lines.specs.Pieces.{held_in}
+use Rattle.lines.proofs.Laws.Held.{held-most}
+use Rattle.look.specs.Steps.{state_of, last_text, decided, end_of}
+use Rattle.look.specs.Inner.{WentTo}
+use Rattle.look.proofs.Laws.Steps.{state-sheet}
+use Rattle.look.proofs.Laws.Room.{end-behind, last-room, end_none, end-done, decided-leaves, decided-end}
+use Rattle.look.proofs.end.Goals as goal
+
+-- no more is held than decides a sheet
+within : (c : goal.Else-out-lt-ROOM) → length (held_in c.args.look.held) ≤ 1024
+within c = held-most c.args.look.held (search rules)
+
+pub returns-then-out-lt-ROOM : goal.returns-then-out-lt-ROOM
+returns-then-out-lt-ROOM c =
+    let a = c.args in
+    end_none a.look a.out-1.now c.if-out-lt-ROOM.true
+
+pub put_end-requires : goal.put_end-requires
+put_end-requires c κs = omega (arith, within c.before.before)
+
+pub returns-in_default : goal.returns-in_default
+returns-in_default c =
+    let put = c.put_end in
+    let keys2 = c.before.before.before.before in
+    let else1 = keys2.before in
+    let a = else1.args in
+    let e : end_of (state_of a.look) ≡ last_text (state_of a.look) =
+    end-behind a.look (λ s. ⊎_elim (λ w. omega arith) (λ w. omega arith) (rw s at keys2.in-Sheet.keys2)) in
+    end-done a.look a.out-1.now (omega arith) put.result put.new.0 (rw e put.ensures.1) (rw e put.ensures.0)
+    (rw e (omega (arith, last-room a.look, within else1)))
+
+pub decide-went-requires : goal.decide-went-requires
+decide-went-requires c κs = (inr refl, omega arith)
+
+-- the sheet is decided
+went : (c : goal.After-decide-went)
+    → let a = c.args in
+    WentTo (decided (held_in a.look.held)) a.out-1.now 0 c.decide-went.result c.decide-went.new.0
+went c = rw append-nil at c.decide-went.ensures
+
+pub put_end-requires-2 : goal.put_end-requires-2
+put_end-requires-2 c κs =
+    let decide = c.before.before.before in
+    let else1 = decide.before.before.before.before.before in
+    let a = else1.args in
+    let w = went decide in
+    let l : length decide.decide-went.new.0 ≡ length a.out-1.now = ap length w.put ∙ length-put_at _ _ _ in
+    rw l (decided-leaves (held_in a.look.held) (within else1) a.out-1.now (omega arith) _ _ w)
+
+pub returns : goal.returns
+returns c =
+    let put = c.put_end-2 in
+    let decide = c.before.before.before.before.before.before in
+    let told = decide.before.before.before in
+    let else1 = told.before.before in
+    let a = else1.args in
+    let e = state-sheet a.look told.enum_told-1.given.1 in
+    let both = decided-end (held_in a.look.held) (within else1) a.out-1.now (omega arith) _ _ (went decide) put.result put.new.0 put.ensures.0 put.ensures.1 in
+    end-done a.look a.out-1.now (omega arith) put.result put.new.0 (rw e both.0) (rw e both.1) (rw e both.2)

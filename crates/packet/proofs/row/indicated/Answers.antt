@@ -1,0 +1,14 @@
+-- `packet::row::indicated` meets its contract: a number of 16 bits is not MCV_NONE. Assumes nothing.
+use mathlib.Core.Path.{refl}
+use native.Mathlib.Omega.{arith}
+use borrow.Author.Tests.{ne_eqb}
+use Rattle.packet.specs.Row.{no_number}
+use Rattle.packet.proofs.row.indicated.Goals as goal
+
+pub returns-in-Absent : goal.returns-in-Absent
+returns-in-Absent c = rw c.enum_told-1.given.1 (refl, tt)
+
+pub returns-in-Given : goal.returns-in-Given
+returns-in-Given c =
+    let number = c.indicator-1.given in
+    rw number.1 (refl, rw (ne_eqb number.0.0 no_number (λ e. omega arith)) tt)

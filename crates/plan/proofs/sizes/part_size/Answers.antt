@@ -1,0 +1,8 @@
+-- `plan::sizes::part_size` meets its contract: a 32-bit length, with its two octets before it, filled up to whole words. Assumes nothing.
+use native.Mathlib.Omega.{arith}
+use Rattle.fields.specs.Walk.{to_word}
+use Rattle.plan.proofs.sizes.part_size.Goals as goal
+
+pub returns-in-Named : goal.returns-in-Named
+unfolding to_word
+returns-in-Named c = rw c.part-1.given.1 (c.field_size.ensures, omega (arith, c.field_size.ensures))

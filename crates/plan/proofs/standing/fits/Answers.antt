@@ -1,0 +1,37 @@
+-- `plan::standing::fits` meets its contract: kind by kind, the definition's tests (`fits-request` and so on). Assumes nothing.
+use mathlib.Core.Path.{sym, ◌∙◌}
+use mathlib.Core.Bool.{and_assoc}
+use mathlib.Core.Logic.{inl, inr, ⊎_elim}
+use Prim.Native.Nat.{ℕ}
+use lib.ListN.{get_or}
+use lib.Dec.{eqb, ltb}
+use Rattle.plan.specs.Inner.{indicator_fits, cause_fits}
+use Rattle.plan.proofs.Laws.Rows.{fits-request, fits-response, fits-end-request, fits-end-response, fits-end, fits-transmission-response, fits-ack, fits-none}
+use Rattle.plan.proofs.standing.fits.Goals as goal
+
+pub returns-in-1 : goal.returns-in-1
+returns-in-1 c =
+    let narrow = c.is_indicator-narrow.ensures in
+    ⊎_elim (λ e. narrow ∙ sym (fits-request _ e)) (λ e. narrow ∙ sym (fits-end-request _ e)) c.in-1.keys1
+
+pub returns-in-2 : goal.returns-in-2
+returns-in-2 c =
+    let keys = c.before.before.before in
+    let narrow = keys.before.before in
+    let at : ℕ → ℕ = λ k. get_or narrow.args.message.now k 0 in
+    rw (c.is_verdict.ensures, narrow.is_indicator-narrow.ensures, fits-response _ keys.in-1.keys2)
+    (and_assoc (ltb (at 7) 2) (cause_fits (eqb (at 7) 1) (at 8)) (indicator_fits (at 9)))
+
+pub returns-in-4 : goal.returns-in-4
+returns-in-4 c = ⊎_elim (λ e. sym (fits-end-response _ e)) (λ e. sym (fits-transmission-response _ e)) c.in-1.keys3
+
+pub returns-in-5 : goal.returns-in-5
+returns-in-5 c = rw (c.is_indicator-narrow.ensures, fits-end _ c.in-1.keys4)
+
+pub returns-in-7 : goal.returns-in-7
+returns-in-7 c = sym (fits-ack _ c.in-1.keys5)
+
+pub returns-in_default : goal.returns-in_default
+returns-in_default c =
+    let n = c.in-1.rest in
+    sym (fits-none _ ((((((((n.0.0.0.0.0, λ e. n.0.0.0.0.1 (inl e)), n.0.0.0.1), λ e. n.0.0.0.0.1 (inr e)), λ e. n.0.0.1 (inl e)), n.0.1), λ e. n.0.0.1 (inr e)), n.1)))

@@ -1,0 +1,25 @@
+-- `seats::find::is_new_name` meets its contract: a name is new where it can be a User ID and `by_user` finds nobody.
+-- Assumes nothing.
+use mathlib.Core.Path.{sym, ap, ◌∙◌}
+use borrow.Author.Tests.{not-true, not-false}
+use Rattle.seats.specs.Found.{found_said}
+use Rattle.sheet.proofs.Laws.Rows.{newName-bad, newName-taken, newName-free}
+use Rattle.seats.proofs.find.is_new_name.Goals as goal
+
+pub returns-then-not-is_user_id : goal.returns-then-not-is_user_id
+returns-then-not-is_user_id c =
+    let a = c.args in
+    sym (newName-bad a.seats a.users.now a.name.now (sym c.is_user_id.ensures ∙ not-true _ c.if-not-is_user_id.true))
+
+pub returns-in-Seat : goal.returns-in-Seat
+returns-in-Seat c =
+    let a = c.args in
+    sym (newName-taken a.seats a.users.now a.name.now _ (sym c.by_user-found.ensures ∙ ap found_said c.enum_told-1.given.1))
+
+pub returns-in-Nobody : goal.returns-in-Nobody
+returns-in-Nobody c =
+    let else1 = c.before.before.before in
+    let a = else1.args in
+    sym (newName-free a.seats a.users.now a.name.now
+    (sym else1.is_user_id.ensures ∙ not-false _ else1.if-not-is_user_id.false)
+    (sym c.by_user-found.ensures ∙ ap found_said c.enum_told-in-Nobody-1.given.1))

@@ -1,0 +1,8 @@
+-- `sheet_line::has_key` meets its contract: the octets from the key's place to its end are looked for at the place.
+-- Assumes nothing.
+use Rattle.sheet_line.specs.Inner.{keys}
+use Rattle.sheet_line.proofs.has_key.Goals as goal
+
+pub returns : goal.returns
+unfolding keys
+returns c = c.stands_at.ensures

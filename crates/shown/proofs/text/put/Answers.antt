@@ -1,0 +1,26 @@
+-- `shown::text::put` meets its contract: the line of ten values, or the refusal on a line. Assumes nothing.
+use Rattle.shown.specs.Line.{number_line, text_of}
+use Rattle.shown.proofs.Laws.Values.{text_of-row}
+use Rattle.shown.proofs.text.put.Goals as goal
+
+pub put_ten-requires : goal.put_ten-requires
+put_ten-requires c κs =
+    let start = c.before.before.before.before.before.before.before in
+    let m = c.reading-1.given in
+    let ten = c.row_of in
+    rw (← text_of-row start.args.packet.now m.0.0 ten.result ten.ensures) (rw m.1 at start.requires)
+
+pub put_line-requires : goal.put_line-requires
+unfolding text_of number_line
+put_line-requires c κs = rw c.reading-in-Refused-1.given.1 at c.requires
+
+pub returns-in-Read : goal.returns-in-Read
+returns-in-Read c =
+    let start = c.before.before.before.before.before.before.before.before.before.before in
+    let m = c.reading-1.given in
+    let ten = c.row_of in
+    rw (m.1, text_of-row start.args.packet.now m.0.0 ten.result ten.ensures) c.put_ten.ensures
+
+pub returns-in-Refused : goal.returns-in-Refused
+unfolding text_of number_line
+returns-in-Refused c = rw c.reading-in-Refused-1.given.1 c.put_line.ensures

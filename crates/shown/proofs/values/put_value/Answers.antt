@@ -1,0 +1,32 @@
+-- `shown::values::put_value` meets its contract, by what the value is. Assumes nothing.
+use mathlib.Core.Path.{refl, sym}
+use native.Mathlib.Omega.{arith}
+use Rattle.shown.specs.Line.{value_text}
+use Rattle.octets.proofs.Buffer.{put_at-one}
+use Rattle.shown.proofs.values.put_value.Goals as goal
+
+pub bounds-out-at : goal.bounds-out-at
+unfolding value_text
+bounds-out-at c =
+    let room = rw c.enum_told-1.given.1 at c.requires in
+    omega arith
+
+pub put-requires : goal.put-requires
+unfolding value_text
+put-requires c κs = rw c.enum_told-in-Given-1.given.1 at c.requires
+
+pub returns-in-Absent : goal.returns-in-Absent
+unfolding value_text
+returns-in-Absent c =
+    let start = c.before.before.before.before in
+    rw c.enum_told-1.given.1 (sym (put_at-one start.args.out-1.now start.args.at 45), refl)
+
+pub returns-in-Given : goal.returns-in-Given
+unfolding value_text
+returns-in-Given c = rw c.enum_told-in-Given-1.given.1 c.put.ensures
+
+pub returns-in-Named : goal.returns-in-Named
+unfolding value_text
+returns-in-Named c =
+    let name = c.before.before.before.before in
+    rw (name.enum_told-in-Named-1.given.1, ← name.name_in-name.ensures) (c.put_octets.ensures, refl)

@@ -1,0 +1,23 @@
+-- `shown::values::value_length` meets its contract, by what the value is. Assumes nothing.
+use mathlib.Core.Path.{refl, ap}
+use native.Mathlib.Nat.{min-le_left}
+use native.Mathlib.Omega.{arith}
+use lib.ListN.{length, drop, length-take}
+use Rattle.shown.specs.Line.{value_text}
+use Rattle.shown.proofs.values.value_length.Goals as goal
+
+pub returns-in-Absent : goal.returns-in-Absent
+unfolding value_text
+returns-in-Absent c = rw c.enum_told-1.given.1 (refl, omega arith)
+
+pub returns-in-Given : goal.returns-in-Given
+unfolding value_text
+returns-in-Given c = rw c.enum_told-in-Given-1.given.1 (c.length_of.ensures.0, omega arith)
+
+pub returns-in-Named : goal.returns-in-Named
+unfolding value_text
+returns-in-Named c =
+    let start = c.before.before.before.before in
+    let value = start.args.value in
+    let n = min-le_left value.len (length (drop value.n start.args.packet.now)) in
+    rw c.enum_told-in-Named-1.given.1 (ap length c.name_in.ensures, rw (c.name_in.ensures, length-take) (omega arith))
