@@ -27,7 +27,7 @@ returns-then-not-are_right c =
     let test = c.before.before in
     let a = test.args in
     eight-misfit one a.sheet.now a.records.now (count-judged _ a.stream)
-    (sym test.are_right.ensures ∙ not-true _ c.if-not-are_right.true)
+    (sym test.are_right.ensures ∙ c.if-not-are_right.true)
     a.count-1.now
     _
     c.misfit.ensures
@@ -36,7 +36,7 @@ returns-then-not-are_right c =
 right : (c : goal.Else-not-are_right)
     → let a = c.args in
     (is_some (records_in 8 a.records.now) && ltb a.stream 256) ≡ true
-right c = sym c.are_right.ensures ∙ not-false _ c.if-not-are_right.false
+right c = sym c.are_right.ensures ∙ c.if-not-are_right.false
 
 pub overflow_cast-stream : goal.overflow_cast-stream
 overflow_cast-stream c =
@@ -56,7 +56,7 @@ eight c =
     (own.0, own.1, c.counted_lent.ensures ∙ ap (λ (x : Record). counted (seen_of (sheet_in a.sheet.now) a.stream x)) own.2)
 
 pub code-requires : goal.code-requires
-code-requires c κs =
+code-requires c =
     let told = c.before.before.before in
     let a = told.args in
     plain-refuses _ _ _ (plain-count (sheet_in a.sheet.now) a.stream told.record_at.result)

@@ -16,7 +16,7 @@ abbrev made : goal.After-event_lent → Said Event
 made c = let a = c.args in event_of (sheet_in a.sheet.now) a.users.now a.packet.now
 
 pub code-requires : goal.code-requires
-code-requires c κs =
+code-requires c =
     let found = c.before.before.before in
     let a = found.args in
     plain-refuses (made found) _ _ (plain-event (sheet_in a.sheet.now) a.users.now a.packet.now)

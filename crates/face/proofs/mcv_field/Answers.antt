@@ -39,12 +39,12 @@ answered c =
     subst Small (sym c.field_at.ensures) (small a.packet.now a.place (λ i. omega (arith, known.shared_slice_known-1.given i)))
 
 pub put_field-requires : goal.put_field-requires
-put_field-requires c κs =
+put_field-requires c =
     let found = c.before.before in
     subst (λ r. Small (step_said r)) found.found-1.given.1 (answered found.before.before)
 
 pub code-requires : goal.code-requires
-code-requires c κs =
+code-requires c =
     let refused = c.before in
     subst (λ r. Small (step_said r)) refused.refusal-1.given.1 (answered refused.before.before)
 

@@ -10,7 +10,7 @@ use Rattle.face.proofs.Laws.Packets.{said_row, plain-packet}
 use Rattle.face.proofs.mcv_read.Goals as goal
 
 pub code-requires : goal.code-requires
-code-requires c κs =
+code-requires c =
     let found = c.before.before.before in
     let a = found.args in
     plain-refuses (outcome_says (read_of (sheet_in a.sheet.now) a.packet.now)) _ _ (plain-packet (sheet_in a.sheet.now) a.packet.now)

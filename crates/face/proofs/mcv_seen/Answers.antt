@@ -22,7 +22,7 @@ returns-then-not-are_right c =
     let test = c.before.before in
     let a = test.args in
     eight-misfit record_row a.sheet.now a.records.now (read-judged _ a.stream)
-    (sym test.are_right.ensures ∙ not-true _ c.if-not-are_right.true)
+    (sym test.are_right.ensures ∙ c.if-not-are_right.true)
     a.seen-1.now
     _
     c.misfit.ensures
@@ -31,7 +31,7 @@ returns-then-not-are_right c =
 right : (c : goal.Else-not-are_right)
     → let a = c.args in
     (is_some (records_in 8 a.records.now) && ltb a.stream 256) ≡ true
-right c = sym c.are_right.ensures ∙ not-false _ c.if-not-are_right.false
+right c = sym c.are_right.ensures ∙ c.if-not-are_right.false
 
 pub overflow_cast-stream : goal.overflow_cast-stream
 overflow_cast-stream c =
@@ -51,7 +51,7 @@ eight c =
     (own.0, own.1, c.seen_lent.ensures ∙ ap (λ (x : Record). seen_of (sheet_in a.sheet.now) a.stream x) own.2)
 
 pub code-requires : goal.code-requires
-code-requires c κs =
+code-requires c =
     let read = c.before.before.before in
     let a = read.args in
     plain-refuses _ _ _ (plain-seen (sheet_in a.sheet.now) a.stream read.record_at.result)

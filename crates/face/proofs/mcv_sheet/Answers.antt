@@ -10,7 +10,7 @@ small : (c : goal.After-read_with-reading) → Small c.read_with-reading.result
 small c = read_small _ _ c.read_with-reading.ensures.0
 
 pub code-requires : goal.code-requires
-code-requires c κs = let s = small c.before.before.before in (s.number, s.line)
+code-requires c = let s = small c.before.before.before in (s.number, s.line)
 
 pub returns-then-refusal-ne0 : goal.returns-then-refusal-ne0
 returns-then-refusal-ne0 c =

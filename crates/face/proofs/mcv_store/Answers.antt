@@ -20,7 +20,7 @@ returns-then-not-are_records c =
     let test = c.before.before in
     let a = test.args in
     keeps_misfit a.sheet.now _
-    (store-unread a.sheet.now a.attempt.now a.records-1.now (sym test.are_records.ensures ∙ not-true _ c.if-not-are_records.true))
+    (store-unread a.sheet.now a.attempt.now a.records-1.now (sym test.are_records.ensures ∙ c.if-not-are_records.true))
     a.records-1.now
     a.answer-1.now
     _
@@ -28,7 +28,7 @@ returns-then-not-are_records c =
 
 -- past the test there are eight records
 eight : (c : goal.Else-not-are_records) → is_some (records_in 8 c.args.records-1.now) ≡ true
-eight c = sym c.are_records.ensures ∙ not-false _ c.if-not-are_records.false
+eight c = sym c.are_records.ensures ∙ c.if-not-are_records.false
 
 -- the attempt that the row stands for
 stands : (c : goal.In-Attempt-2)
@@ -42,7 +42,7 @@ pub slice_bounds-store-count : goal.slice_bounds-store-count
 slice_bounds-store-count c = omega (arith, answered-length _ c.given-1.given-1.0.0 (stands c.before))
 
 pub store-requires : goal.store-requires
-store-requires c κs =
+store-requires c =
     let given = c.before.before.before.before in
     let row = given.args.attempt.now in
     part_end 5 row ∙ answered row given.given-1.given-1.0.0 (stands given)

@@ -47,7 +47,7 @@ rowed c =
     subst (λ (row : List ℕ). Rowed (gives row) a.answer-1.now c.put-returned.result c.put-returned.new.0) start.requires c.put-returned.ensures
 
 pub code-requires : goal.code-requires
-code-requires c κs =
+code-requires c =
     let said = c.before.before.before in
     let a = said.args in
     plain-refuses _ _ _ (plain-reply (sheet_in a.sheet.now) (attempt_said a.attempt) said.record_at.result)

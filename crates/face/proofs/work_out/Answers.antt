@@ -18,7 +18,7 @@ unfolding work_of
 says c = ap (λ (l : Left Try). l.said) (c.work_out_lent.ensures [])
 
 pub code-requires : goal.code-requires
-code-requires c κs =
+code-requires c =
     let worked = c.before.before.before in
     let a = worked.args in
     plain-refuses _ _ _ (plain-attempt (sheet_in a.sheet.now) a.seen a.event) (sym (says worked) ∙ ap worked_said c.refusal-1.given.1)

@@ -57,7 +57,7 @@ use Rattle.field_reader.proofs.next_field.Goals as goal
 
 -- the reader's type, over the signature's lifetimes
 abbrev B : Lfts 1 → RattleType
-B κs = T.the_row (named_lft 1 0 tt κs)
+B = T.the_row (named_lft 1 0 tt κs)
 
 abbrev stayed : Stays (next.ended).signature.params (next.ended).kept
 stayed = (stay_none B yes, tt)

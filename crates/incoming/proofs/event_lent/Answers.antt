@@ -14,19 +14,19 @@ use Rattle.incoming.proofs.event_lent.Goals as goal
 pub returns-then-not-are_valid_with : goal.returns-then-not-are_valid_with
 returns-then-not-are_valid_with c =
     let refused = c.refusal.ensures in
-    rw (event-invalid _ _ _ (sym c.are_valid_with.ensures ∙ not-true _ c.if-not-are_valid_with.true), refused.0, refused.1)
+    rw (event-invalid _ _ _ (sym c.are_valid_with.ensures ∙ c.if-not-are_valid_with.true), refused.0, refused.1)
 
 module _ (c : goal.Else-not-are_valid_with) where
   -- past the check they are a sheet's, User IDs and all ..
   passed : let a = c.args in valid_with (sheet_in a.numbers.now) a.users.now ≡ true
-  passed = sym c.are_valid_with.ensures ∙ not-false _ c.if-not-are_valid_with.false
+  passed = sym c.are_valid_with.ensures ∙ c.if-not-are_valid_with.false
 
   -- .. so there are nineteen
   long : length c.args.numbers.now ≡ 19
   long = valid-counted _ (valid-alone _ _ (true-T _ passed))
 
 pub event_in-requires : goal.event_in-requires
-event_in-requires c κs = long c
+event_in-requires c = long c
 
 pub returns : goal.returns
 returns c =

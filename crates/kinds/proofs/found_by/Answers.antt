@@ -35,7 +35,7 @@ returns-then-failed-ne0 c =
     (read_by-failed a.numbers a.packet.now (λ z. c.if-failed-ne0.true (failed ∙ z)) ∙ rw failed))
 
 pub kind_of-kind-requires : goal.kind_of-kind-requires
-kind_of-kind-requires c κs = (past-size c).least
+kind_of-kind-requires c = (past-size c).least
 
 -- there the kind decides
 past_head : (c : goal.After-kind_of-kind)
@@ -67,7 +67,7 @@ returns-then-walk-packet c =
     (ne_eqb (stop_from a.packet.now first_field) (length a.packet.now) (λ e. omega arith))))
 
 pub sorted-requires : goal.sorted-requires
-sorted-requires c κs =
+sorted-requires c =
     let walked = c.before in
     let kind = walked.before.before in
     let size = past-size kind.before in

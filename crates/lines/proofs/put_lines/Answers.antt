@@ -35,7 +35,7 @@ fits : (c : goal.After-line_end-lf)
     → let a = (begin c).args in lines_room (held_in a.held) a.piece.now ≤ length a.out-1.now - a.at
 fits c =
     let a = (begin c).args in
-    leb-true (lines_room (held_in a.held) a.piece.now) (length a.out-1.now - a.at) (sym (told c.before.before) ∙ not-false _ c.if-not-has_room.false)
+    leb-true (lines_room (held_in a.held) a.piece.now) (length a.out-1.now - a.at) (sym (told c.before.before) ∙ c.if-not-has_room.false)
 
 -- where the first line ends
 ends : (c : goal.After-line_end-lf) → c.line_end-lf.result ≡ length (front in_line (begin c).args.piece.now)
@@ -93,7 +93,7 @@ pub returns-then-not-has_room : goal.returns-then-not-has_room
 returns-then-not-has_room c =
     let a = c.args in
     without-room a.numbers a.held a.piece.now a.out-1.now a.at
-    (leb-false (lines_room (held_in a.held) a.piece.now) (length a.out-1.now - a.at) (sym (told c.before) ∙ not-true _ c.if-not-has_room.true))
+    (leb-false (lines_room (held_in a.held) a.piece.now) (length a.out-1.now - a.at) (sym (told c.before) ∙ c.if-not-has_room.true))
 
 pub slice_bounds-with-end : goal.slice_bounds-with-end
 slice_bounds-with-end c = sym (length-take-le _ _ (within c.before))
@@ -120,7 +120,7 @@ pub overflow_add-lf : goal.overflow_add-lf
 overflow_add-lf c = omega (arith, more c.before.before.before.before.before.before.before)
 
 pub put_ended-ended-requires : goal.put_ended-ended-requires
-put_ended-ended-requires c κs =
+put_ended-ended-requires c =
     let put = c.before.before.before in
     let else2 = put.before.before.before.before in
     let a = (begin else2.before.before.before).args in

@@ -125,7 +125,7 @@ lines c =
     (lines-put (numbers_of r.sheet) none.none.result s a.out-1.now 0 (rw empty (omega (arith, room read))) c.put_lines-kept.result c.put_lines-kept.new.0 put)
 
 pub in_lines-requires : goal.in_lines-requires
-in_lines-requires c κs =
+in_lines-requires c =
     let put = c.before.before.before in
     let read = put.before.before.before.before.before.before.before.before in
     let a = read.args in

@@ -25,7 +25,7 @@ returns-then-out-lt-ROOM c =
     end_none a.look a.out-1.now c.if-out-lt-ROOM.true
 
 pub put_end-requires : goal.put_end-requires
-put_end-requires c κs = omega (arith, within c.before.before)
+put_end-requires c = omega (arith, within c.before.before)
 
 pub returns-in_default : goal.returns-in_default
 returns-in_default c =
@@ -39,7 +39,7 @@ returns-in_default c =
     (rw e (omega (arith, last-room a.look, within else1)))
 
 pub decide-went-requires : goal.decide-went-requires
-decide-went-requires c κs = (inr refl, omega arith)
+decide-went-requires c = (inr refl, omega arith)
 
 -- the sheet is decided
 went : (c : goal.After-decide-went)
@@ -48,7 +48,7 @@ went : (c : goal.After-decide-went)
 went c = rw append-nil at c.decide-went.ensures
 
 pub put_end-requires-2 : goal.put_end-requires-2
-put_end-requires-2 c κs =
+put_end-requires-2 c =
     let decide = c.before.before.before in
     let else1 = decide.before.before.before.before.before in
     let a = else1.args in

@@ -54,7 +54,7 @@ rest c =
     take_all (length piece - room) (drop room piece) (omega (arith, length-drop room piece))
 
 pub decide-requires : goal.decide-requires
-decide-requires c κs =
+decide-requires c =
     let else1 = c.before.before in
     let piece = else1.args.piece.now in
     let room = 1024 - else1.length_of-room.result in

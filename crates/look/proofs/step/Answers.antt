@@ -30,7 +30,7 @@ told c = simp unary_clauses at c.has_room.ensures
 -- there is
 room : (c : goal.Else-not-has_room)
     → let a = c.args in leb (room_asked (length a.piece.now)) (length a.out-1.now) ≡ true
-room c = sym (told c.before) ∙ not-false _ c.if-not-has_room.false
+room c = sym (told c.before) ∙ c.if-not-has_room.false
 
 -- no more is held than decides a sheet
 within : (c : goal.Else-not-has_room) → length (held_in c.args.look.held) ≤ 1024
@@ -39,13 +39,13 @@ within c = held-most c.args.look.held (search rules)
 pub returns-then-not-has_room : goal.returns-then-not-has_room
 returns-then-not-has_room c =
     let a = c.args in
-    step-none a.look a.piece.now a.out-1.now (sym (told c.before) ∙ not-true _ c.if-not-has_room.true)
+    step-none a.look a.piece.now a.out-1.now (sym (told c.before) ∙ c.if-not-has_room.true)
 
 pub in_sheet-requires : goal.in_sheet-requires
-in_sheet-requires c κs = leb-true _ _ (room c.before.before.before)
+in_sheet-requires c = leb-true _ _ (room c.before.before.before)
 
 pub in_lines-requires : goal.in_lines-requires
-in_lines-requires c κs =
+in_lines-requires c =
     let else1 = c.before.before.before in
     let a = else1.args in
     omega (arith, within else1, leb-true (room_asked (length a.piece.now)) (length a.out-1.now) (room else1))

@@ -27,13 +27,13 @@ returns-then-not-are_valid_with c =
     let checked = c.before in
     let a = checked.args in
     rw (in-invalid (sheet_in a.numbers.now) a.users.now a.stream (length a.out-1.now) (answer_in a.answer.now)
-    (sym checked.are_valid_with.ensures ∙ not-true _ c.if-not-are_valid_with.true))
+    (sym checked.are_valid_with.ensures ∙ c.if-not-are_valid_with.true))
     (refl, refl)
 
 module _ (c : goal.Else-not-are_valid_with) where
   -- past the first check they are a sheet's, User IDs and all
   passed : let a = c.args in valid_with (sheet_in a.numbers.now) a.users.now ≡ true
-  passed = sym c.are_valid_with.ensures ∙ not-false _ c.if-not-are_valid_with.false
+  passed = sym c.are_valid_with.ensures ∙ c.if-not-are_valid_with.false
 
   -- it is valid by itself
   alone : T (valid_alone (sheet_in c.args.numbers.now))
@@ -74,15 +74,15 @@ returns-then-not-is_answer c =
     let else1 = c.before.before.before.before in
     let a = else1.args in
     rw (in-none (sheet_in a.numbers.now) a.users.now a.stream (length a.out-1.now) (answer_in a.answer.now) (passed else1)
-    (sym c.is_answer.ensures ∙ not-true _ c.if-not-is_answer.true))
+    (sym c.is_answer.ensures ∙ c.if-not-is_answer.true))
     (refl, refl)
 
 -- past the third the row stands for an answer
 given : (c : goal.Else-not-is_answer) → (a : Answer) × (answer_in c.args.answer.now ≡ some a)
-given c = is-some (answer_in _) (sym c.is_answer.ensures ∙ not-false _ c.if-not-is_answer.false)
+given c = is-some (answer_in _) (sym c.is_answer.ensures ∙ c.if-not-is_answer.false)
 
 pub send-requires : goal.send-requires
-send-requires c κs =
+send-requires c =
     let else3 = c.before.before.before in
     (valid-fitting _ (alone else3.before.before.before.before), search rules, answer-counted _ (given else3).0 (given else3).1)
 

@@ -2,7 +2,7 @@
 use Rattle.packet.proofs.asked_lent.Goals as goal
 
 pub asking-requires : goal.asking-requires
-asking-requires c κs = c.found_lent.ensures.sorted
+asking-requires c = c.found_lent.ensures.sorted
 
 pub returns : goal.returns
 returns c = rw (c.asking.ensures, c.found_lent.ensures.told)

@@ -8,10 +8,10 @@ unfolding asks_of
 returns-then-found-ne0 c = rw (ne_eqb _ 0 c.if-found-ne0.true)
 
 pub head_of-head-requires : goal.head_of-head-requires
-head_of-head-requires c κs = (c.requires c.if-found-ne0.false).least
+head_of-head-requires c = (c.requires c.if-found-ne0.false).least
 
 pub asked_of-requires : goal.asked_of-requires
-asked_of-requires c κs =
+asked_of-requires c =
     let else1 = c.before.before in
     let sorted = else1.requires else1.if-found-ne0.false in
     (sorted.most, sorted.inside)

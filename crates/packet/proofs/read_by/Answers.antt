@@ -2,7 +2,7 @@
 use Rattle.packet.proofs.read_by.Goals as goal
 
 pub told-requires : goal.told-requires
-told-requires c κs = c.found_by.ensures.sorted
+told-requires c = c.found_by.ensures.sorted
 
 pub returns : goal.returns
 returns c = rw (c.told.ensures, c.found_by.ensures.told)

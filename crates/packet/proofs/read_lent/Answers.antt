@@ -7,13 +7,13 @@ use Rattle.packet.proofs.read_lent.Goals as goal
 
 pub returns-then-not-are_valid : goal.returns-then-not-are_valid
 unfolding read_of
-returns-then-not-are_valid c = rw (c.refused.ensures, sym c.are_valid.ensures ∙ not-true _ c.if-not-are_valid.true)
+returns-then-not-are_valid c = rw (c.refused.ensures, sym c.are_valid.ensures ∙ c.if-not-are_valid.true)
 
 pub told-requires : goal.told-requires
-told-requires c κs = c.found_lent.ensures.sorted
+told-requires c = c.found_lent.ensures.sorted
 
 pub returns : goal.returns
 unfolding read_of
 returns c =
     let else1 = c.before.before in
-    rw (c.told.ensures, c.found_lent.ensures.told, sym else1.are_valid.ensures ∙ not-false _ else1.if-not-are_valid.false)
+    rw (c.told.ensures, c.found_lent.ensures.told, sym else1.are_valid.ensures ∙ else1.if-not-are_valid.false)

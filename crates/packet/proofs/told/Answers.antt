@@ -6,10 +6,10 @@ pub returns-then-found-ne0 : goal.returns-then-found-ne0
 returns-then-found-ne0 c = rw (c.refused.ensures, ne_eqb _ 0 c.if-found-ne0.true)
 
 pub head_of-head-requires : goal.head_of-head-requires
-head_of-head-requires c κs = (c.requires c.if-found-ne0.false).least
+head_of-head-requires c = (c.requires c.if-found-ne0.false).least
 
 pub message_of-requires : goal.message_of-requires
-message_of-requires c κs =
+message_of-requires c =
     let else1 = c.before.before in
     let sorted = else1.requires else1.if-found-ne0.false in
     (sorted.above, sorted.below, sorted.most, sorted.inside)

@@ -24,7 +24,7 @@ use Rattle.plan.proofs.plan_of.Goals as goal
 
 -- past the first test the numbers fit ..
 fits : (c : goal.Else-not-fit) → fitting c.args.numbers.now ≡ true
-fits c = sym c.fit.ensures ∙ not-false _ c.if-not-fit.false
+fits c = sym c.fit.ensures ∙ c.if-not-fit.false
 
 -- .. past the second the row stands for a message, whose numbers fit ..
 record Stands (c : goal.Else-not-stands) : Type 0 where
@@ -34,7 +34,7 @@ record Stands (c : goal.Else-not-stands) : Type 0 where
 stood : (c : goal.Else-not-stands) → Stands c
 stood c =
     let row = c.args.message.now in
-    let both = true-T (is_message_row row && numbers_fit row) (sym c.stands.ensures ∙ not-false _ c.if-not-stands.false) in
+    let both = true-T (is_message_row row && numbers_fit row) (sym c.stands.ensures ∙ c.if-not-stands.false) in
     record { own = T-and-left (is_message_row row) (numbers_fit row) both; narrow = T-and-right (is_message_row row) (numbers_fit row) both }
 
 is : (c : goal.Else-not-stands) → let row = c.args.message.now in message_in row ≡ message_said (message_from row)
@@ -61,25 +61,25 @@ means c =
 
 pub returns-then-not-fit : goal.returns-then-not-fit
 unfolding plan_of
-returns-then-not-fit c = rw (sym c.fit.ensures ∙ not-true _ c.if-not-fit.true)
+returns-then-not-fit c = rw (sym c.fit.ensures ∙ c.if-not-fit.true)
 
 pub returns-then-not-stands : goal.returns-then-not-stands
 unfolding plan_of
 returns-then-not-stands c =
     let a = c.args in
-    rw (fits c.before.before, misfit-row a.message.now (sym c.stands.ensures ∙ not-true _ c.if-not-stands.true) (sheet_from a.numbers.now) a.names.now)
+    rw (fits c.before.before, misfit-row a.message.now (sym c.stands.ensures ∙ c.if-not-stands.true) (sheet_from a.numbers.now) a.names.now)
 
 pub are_right-requires : goal.are_right-requires
-are_right-requires c κs = row-length c.args.message.now (stood c).own
+are_right-requires c = row-length c.args.message.now (stood c).own
 
 pub returns-then-not-are_right : goal.returns-then-not-are_right
 unfolding plan_of
 returns-then-not-are_right c =
     let asked = c.before in
-    rw (fits asked.before.before.before, means asked.before, sym asked.are_right.ensures ∙ not-true _ c.if-not-are_right.true)
+    rw (fits asked.before.before.before, means asked.before, sym asked.are_right.ensures ∙ c.if-not-are_right.true)
 
 pub plan_for-requires : goal.plan_for-requires
-plan_for-requires c κs =
+plan_for-requires c =
     let stands = c.before.before in
     let row = stands.args.message.now in
     (true-T _ (fits stands.before.before), row-length row (stood stands).own, (stood stands).narrow)
@@ -91,5 +91,5 @@ returns c =
     let stands = asked.before in
     let a = stands.args in
     let s = sheet_from a.numbers.now in
-    rw (fits stands.before.before, means stands, sym asked.are_right.ensures ∙ not-false _ c.if-not-are_right.false, c.plan_for.ensures)
+    rw (fits stands.before.before, means stands, sym asked.are_right.ensures ∙ c.if-not-are_right.false, c.plan_for.ensures)
     (plan-said s (message_from a.message.now) ∙ ap (plan_by s) (sym (is stands)))

@@ -17,18 +17,18 @@ pub returns-then-not-are_valid : goal.returns-then-not-are_valid
 unfolding admitted
 returns-then-not-are_valid c =
     let r = c.refusal.ensures in
-    rw (r.0, r.1, sym c.are_valid.ensures ∙ not-true _ c.if-not-are_valid.true)
+    rw (r.0, r.1, sym c.are_valid.ensures ∙ c.if-not-are_valid.true)
 
 -- past the first test the numbers are a valid sheet's ..
 is-valid : (c : goal.Else-not-are_valid) → valid_alone (sheet_in c.args.numbers.now) ≡ true
-is-valid c = sym c.are_valid.ensures ∙ not-false _ c.if-not-are_valid.false
+is-valid c = sym c.are_valid.ensures ∙ c.if-not-are_valid.false
 
 -- .. so there are nineteen
 long : (c : goal.Else-not-are_valid) → length c.args.numbers.now ≡ 19
 long c = valid-counted _ (true-T _ (is-valid c))
 
 pub rules_in-rules-requires : goal.rules_in-rules-requires
-rules_in-rules-requires c κs = long c
+rules_in-rules-requires c = long c
 
 -- the rules are the sheet's
 ruled : (c : goal.After-rules_in-rules) → c.rules_in-rules.result ≡ rules_of (sheet_in c.args.numbers.now)
@@ -45,10 +45,10 @@ unfolding admitted
 returns-then-not-is_on c =
     let r = c.refusal-then-not-is_on.ensures in
     let test = c.before.before in
-    rw (r.0, r.1, is-valid test.before.before, on test ∙ not-true _ c.if-not-is_on.true)
+    rw (r.0, r.1, is-valid test.before.before, on test ∙ c.if-not-is_on.true)
 
 pub returns : goal.returns
 unfolding admitted
 returns c =
     let rules = c.before.before in
-    rw (is-valid rules.before, on c.before ∙ not-false _ c.if-not-is_on.false, ruled rules)
+    rw (is-valid rules.before, on c.before ∙ c.if-not-is_on.false, ruled rules)

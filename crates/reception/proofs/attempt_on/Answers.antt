@@ -20,14 +20,14 @@ judged c = rw (c.is_sender_on.ensures, c.is_legal.ensures)
 pub returns-then-not-is_sender_on-is_legal : goal.returns-then-not-is_sender_on-is_legal
 returns-then-not-is_sender_on-is_legal c =
     let r = c.refusal.ensures in
-    rw (r.0, r.1, judged c.before.before ∙ not-true _ c.if-not-is_sender_on-is_legal.true)
+    rw (r.0, r.1, judged c.before.before ∙ c.if-not-is_sender_on-is_legal.true)
 
 pub returns : goal.returns
 unfolding most_seats
 returns c =
     let test = c.before.before in
     let start = test.before.before.before in
-    let good = judged test.before ∙ not-false _ test.if-not-is_sender_on-is_legal.false in
+    let good = judged test.before ∙ test.if-not-is_sender_on-is_legal.false in
     let a = start.args in
     let on = T-and-left (sender_on a.rules a.event.what) (legal a.rules a.event.stream a.seen) (true-T _ good) in
     let row = c.change_of-change.ensures ∙ changes_by_table _ _ _ _ on start.requires in

@@ -14,7 +14,7 @@ found c = sym c.is_legal.ensures
 pub returns-then-not-is_legal : goal.returns-then-not-is_legal
 returns-then-not-is_legal c =
     let r = c.refusal.ensures in
-    rw (r.0, r.1, found c.before.before ∙ not-true _ c.if-not-is_legal.true)
+    rw (r.0, r.1, found c.before.before ∙ c.if-not-is_legal.true)
 
 pub returns : goal.returns
-returns c = rw (found c.before ∙ not-false _ c.if-not-is_legal.false)
+returns c = rw (found c.before ∙ c.if-not-is_legal.false)

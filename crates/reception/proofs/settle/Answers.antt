@@ -19,7 +19,7 @@ unfolding settled
 returns-then-not-is_legal c =
     let test = c.before in
     let r = c.refusal.ensures in
-    rw (r.0, r.1, legals test.before ∙ not-true _ test.if-not-is_legal.true)
+    rw (r.0, r.1, legals test.before ∙ test.if-not-is_legal.true)
 
 -- whether the stream's own record is the one seen
 compared : (c : goal.After-is_same)
@@ -33,10 +33,10 @@ returns-then-not-is_same c =
     let test = c.before in
     let r = c.refusal-then-not-is_same.ensures in
     let past = test.before.before in
-    rw (r.0, r.1, legals past.before ∙ not-false _ past.if-not-is_legal.false, compared test.before ∙ not-true _ test.if-not-is_same.true)
+    rw (r.0, r.1, legals past.before ∙ past.if-not-is_legal.false, compared test.before ∙ test.if-not-is_same.true)
 
 pub returns : goal.returns
 unfolding settled
 returns c =
     let past = c.before.before in
-    rw (legals past.before ∙ not-false _ past.if-not-is_legal.false, compared c.before ∙ not-false _ c.if-not-is_same.false)
+    rw (legals past.before ∙ past.if-not-is_legal.false, compared c.before ∙ c.if-not-is_same.false)

@@ -16,7 +16,7 @@ gave : (c : goal.In-Read)
 gave c = sym c.seen_lent.ensures ∙ ap seen_said c.own-1.given.1
 
 pub rules_in-requires : goal.rules_in-requires
-rules_in-requires c κs = seen-counted _ _ _ _ (gave c)
+rules_in-requires c = seen-counted _ _ _ _ (gave c)
 
 -- the rules are the sheet's
 ruled : (c : goal.After-rules_in) → c.rules_in.result ≡ rules_of (sheet_in c.args.numbers.now)

@@ -14,7 +14,7 @@ admits : (c : goal.In-Under)
 admits c = under-admits _ _ _ _ c.admit.ensures c.rules-1.given.1
 
 pub attempt_on-requires : goal.attempt_on-requires
-attempt_on-requires c κs = (admits c).few
+attempt_on-requires c = (admits c).few
 
 pub returns-in-Under : goal.returns-in-Under
 unfolding work_of

@@ -14,7 +14,7 @@ use Rattle.seats.proofs.are_valid_with.Goals as goal
 
 -- the numbers are a sheet's ..
 alone : (c : goal.Else-not-are_valid) → let ns = c.args.numbers.now in T (valid_alone (sheet_in ns))
-alone c = true-T _ (sym c.are_valid.ensures ∙ not-false _ c.if-not-are_valid.false)
+alone c = true-T _ (sym c.are_valid.ensures ∙ c.if-not-are_valid.false)
 
 -- .. so there are nineteen
 long : (c : goal.Else-not-are_valid) → length c.args.numbers.now ≡ 19
@@ -23,7 +23,7 @@ long c = valid-counted _ (alone c)
 pub returns-then-not-are_valid : goal.returns-then-not-are_valid
 returns-then-not-are_valid c =
     let a = c.args in
-    sym (not-alone (sheet_in a.numbers.now) a.users.now (sym c.are_valid.ensures ∙ not-true _ c.if-not-are_valid.true))
+    sym (not-alone (sheet_in a.numbers.now) a.users.now (sym c.are_valid.ensures ∙ c.if-not-are_valid.true))
 
 pub bounds-numbers-10 : goal.bounds-numbers-10
 bounds-numbers-10 c = omega (arith, long c.before)

@@ -16,12 +16,12 @@ eight c = search rules
 pub returns-then-not-valid : goal.returns-then-not-valid
 returns-then-not-valid c =
     let a = c.args in
-    sym (not-alone a.sheet a.users.now (sym c.valid.ensures ∙ not-true _ c.if-not-valid.true))
+    sym (not-alone a.sheet a.users.now (sym c.valid.ensures ∙ c.if-not-valid.true))
 
 pub returns : goal.returns
 unfolding most_seats
 returns c =
     let else1 = c.before in
     let a = else1.args in
-    let alone = true-T _ (sym else1.valid.ensures ∙ not-false _ else1.if-not-valid.false) in
+    let alone = true-T _ (sym else1.valid.ensures ∙ else1.if-not-valid.false) in
     rows-judged a.sheet a.users.now (eight else1) c.are_good_rows.ensures.0 alone _ c.are_good_rows.ensures.1

@@ -17,7 +17,7 @@ abbrev octet : goal.Else-not-is_digit → ℕ
 octet c = get_or c.args.text.now c.loop-i.i 0
 
 octet-digit : (c : goal.Else-not-is_digit) → T (digit (octet c))
-octet-digit c = true-T (digit (octet c)) (not-false _ c.if-not-is_digit.false)
+octet-digit c = true-T (digit (octet c)) (c.if-not-is_digit.false)
 
 pub loop-i-init : goal.loop-i-init
 loop-i-init c = (refl, 0, omega arith, refl)
@@ -27,7 +27,7 @@ returns-then-not-is_digit c =
     let text = c.args.text.now in
     let i = c.loop-i.i in
     let inv = c.loop-i.invariant in
-    let none = front-drop-false digit text i (omega arith) (not-true _ c.if-not-is_digit.true) in
+    let none = front-drop-false digit text i (omega arith) (c.if-not-is_digit.true) in
     (omega (arith, ap length none), omega (arith, sym (ap (value_from inv.1) none) ∙ inv.3))
 
 pub overflow_sub-next : goal.overflow_sub-next

@@ -44,7 +44,7 @@ key-is c =
     c.has_key_lem.ensures ∙ ap (λ (octets : List ℕ). begins octets (drop a.at a.text.now)) c.key_of-key.ensures.key
 
 key-found : (c : goal.After-struct_known-1) → begins (row c).key (drop (place c) (text c)) ≡ true
-key-found c = sym (key-is c.before.before) ∙ not-false _ c.if-not-has_key.false
+key-found c = sym (key-is c.before.before) ∙ c.if-not-has_key.false
 
 starts : (c : goal.After-struct_known-1) → start c ≡ place c + length (row c).key
 starts c =
@@ -79,13 +79,13 @@ returns-then-text-at c =
     said a.text.now a.at a.k Bad (line-past a.text.now a.at (row_at a.k) c.if-text-at.true)
 
 pub has_key-requires : goal.has_key-requires
-has_key-requires c κs = (c.if-text-at.false, c.key_of-key.ensures.ordered, c.key_of-key.ensures.within)
+has_key-requires c = (c.if-text-at.false, c.key_of-key.ensures.ordered, c.key_of-key.ensures.within)
 
 pub returns-then-not-has_key : goal.returns-then-not-has_key
 returns-then-not-has_key c =
     let a = c.args in
     said _ _ _ Bad
-    (line-no-key a.text.now a.at _ _ (row_at a.k) refl refl (sym (key-is c.before) ∙ not-true _ c.if-not-has_key.true))
+    (line-no-key a.text.now a.at _ _ (row_at a.k) refl refl (sym (key-is c.before) ∙ c.if-not-has_key.true))
 
 pub overflow_sub-start : goal.overflow_sub-start
 overflow_sub-start c = c.key_of-key.ensures.ordered
@@ -94,7 +94,7 @@ pub overflow_add-start : goal.overflow_add-start
 overflow_add-start c = omega (arith, start-le c)
 
 pub is_plain-requires : goal.is_plain-requires
-is_plain-requires c κs = (omega (arith, c.digits-found.ensures.0), end-le c)
+is_plain-requires c = (omega (arith, c.digits-found.ensures.0), end-le c)
 
 pub returns-then-not-is_plain : goal.returns-then-not-is_plain
 returns-then-not-is_plain c =
@@ -102,10 +102,10 @@ returns-then-not-is_plain c =
     let k = d.before in
     said _ _ _ Bad
     (line-not-plain (text k) (place k) (start k) d.digits-found.result.end (row k) (starts k) d.digits-found.ensures.0
-    (sym (plain-is c.before) ∙ not-true _ c.if-not-is_plain.true))
+    (sym (plain-is c.before) ∙ c.if-not-is_plain.true))
 
 pub tail-rest-requires : goal.tail-rest-requires
-tail-rest-requires c κs = end-le c.before.before
+tail-rest-requires c = end-le c.before.before
 
 pub returns-in-Good : goal.returns-in-Good
 returns-in-Good c =
@@ -117,7 +117,7 @@ returns-in-Good c =
     (line-good (text k) (place k) (start k) d.digits-found.result.end (row k) (starts k) d.digits-found.ensures.0 d.digits-found.result.number _ _
     (key-found k)
     d.digits-found.ensures.1
-    (sym (plain-is p.before) ∙ not-false _ p.if-not-is_plain.false)
+    (sym (plain-is p.before) ∙ p.if-not-is_plain.false)
     told)
 
 pub returns-in-Bad : goal.returns-in-Bad

@@ -30,14 +30,14 @@ returns-then-k-lt-NUMBER_LINES c =
 pub returns-then-not-is_at : goal.returns-then-not-is_at
 returns-then-not-is_at c =
     let a = c.args in
-    tail-no-comma a.text.now a.at _ (row_at a.k) (seat c.before.before) refl (sym c.is_at-2.ensures ∙ not-true _ c.if-not-is_at.true)
+    tail-no-comma a.text.now a.at _ (row_at a.k) (seat c.before.before) refl (sym c.is_at-2.ensures ∙ c.if-not-is_at.true)
 
 pub returns-then-is_at-2 : goal.returns-then-is_at-2
 returns-then-is_at-2 c =
     let comma = c.before.before.before in
     let a = comma.args in
     tail-seat a.text.now a.at c.visible_end-end.result (row_at a.k) (seat comma.before.before) c.visible_end-end.ensures
-    (sym comma.is_at-2.ensures ∙ not-false _ comma.if-not-is_at.false)
+    (sym comma.is_at-2.ensures ∙ comma.if-not-is_at.false)
     (sym c.is_at-3.ensures ∙ c.if-is_at-2.true)
 
 pub returns-else-is_at-2 : goal.returns-else-is_at-2

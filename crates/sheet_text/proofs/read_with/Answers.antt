@@ -7,7 +7,7 @@ use Rattle.sheet_text.proofs.Laws.Scanned.{no_users, users-read, users-refused}
 use Rattle.sheet_text.proofs.read_with.Goals as goal
 
 pub scan-reading-requires : goal.scan-reading-requires
-scan-reading-requires c κs = no_users
+scan-reading-requires c = no_users
 
 -- the refusal's number is that of the definition
 number_is : (c : goal.After-scan-reading) → c.scan-reading.result.refusal-1.number ≡ (read_of c.args.text.now).refusal-1.number

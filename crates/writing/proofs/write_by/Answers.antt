@@ -16,7 +16,7 @@ planned : (c : goal.In-Packet-2)
 planned c = rw c.plan-1.given.1 at c.plan_of.ensures
 
 pub write_plan-requires : goal.write_plan-requires
-write_plan-requires c κs =
+write_plan-requires c =
     let p = c.before.before in
     let a = p.args in
     (plans_the_packet a.numbers.now a.message.now a.names.now p.plan-1.given.0.0 (planned p)).1

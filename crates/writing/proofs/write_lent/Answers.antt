@@ -11,7 +11,7 @@ use Rattle.writing.proofs.write_lent.Goals as goal
 pub returns-then-not-are_valid : goal.returns-then-not-are_valid
 unfolding write_of told after
 returns-then-not-are_valid c =
-    rw (sym c.are_valid.ensures ∙ not-true _ c.if-not-are_valid.true) (refl, refl)
+    rw (sym c.are_valid.ensures ∙ c.if-not-are_valid.true) (refl, refl)
 
 pub returns : goal.returns
 unfolding write_of write_by
@@ -19,6 +19,6 @@ returns c =
     let put = c.before.before in
     let else1 = put.before.before in
     let ns = else1.args.numbers.now in
-    let valid = sym else1.are_valid.ensures ∙ not-false _ else1.if-not-are_valid.false in
+    let valid = sym else1.are_valid.ensures ∙ else1.if-not-are_valid.false in
     let t = true-T _ valid in
     rw (valid, sheet_in-counted ns (valid-counted ns t)) (rw (T_true (fitting ns) (valid-fitting ns t)) at put.write_by.ensures)

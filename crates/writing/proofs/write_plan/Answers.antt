@@ -66,14 +66,14 @@ returns-then-out-size c =
     rw (no_room a.names.now a.plan (right sized) (length a.out-1.now) (omega (arith, sized.type_size.ensures))) (refl, refl)
 
 pub put_header-requires : goal.put_header-requires
-put_header-requires c κs =
+put_header-requires c =
     let sized = c.before.before in
     let a = sized.args in
     let most = plan-most a.names.now a.plan (right sized) in
     (omega arith, omega arith, omega arith)
 
 pub put_fields-requires : goal.put_fields-requires
-put_fields-requires c κs =
+put_fields-requires c =
     let sized = c.before.before.before.before.before.before in
     (right sized, simp (length-take, length-drop) (omega arith))
 

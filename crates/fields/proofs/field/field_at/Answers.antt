@@ -21,7 +21,7 @@ place d = d.args.at
 
 placed : (d : goal.Else-not-is_place_right) → Placed (packet d) (place d)
 placed d =
-    right_place (packet d) (place d) (true-T (place_right (packet d) (place d)) (sym d.is_place_right.ensures ∙ not-false _ d.if-not-is_place_right.false))
+    right_place (packet d) (place d) (true-T (place_right (packet d) (place d)) (sym d.is_place_right.ensures ∙ d.if-not-is_place_right.false))
 
 -- past the place: there is a right field, and that is its end
 right : (e : goal.Else-next-at)
@@ -37,7 +37,7 @@ pub returns-then-not-is_place_right : goal.returns-then-not-is_place_right
 returns-then-not-is_place_right c =
     let judged = c.before in
     let a = judged.args in
-    sym (step-off a.packet.now a.at (sym judged.is_place_right.ensures ∙ not-true _ c.if-not-is_place_right.true))
+    sym (step-off a.packet.now a.at (sym judged.is_place_right.ensures ∙ c.if-not-is_place_right.true))
 
 pub returns-then-at-packet : goal.returns-then-at-packet
 returns-then-at-packet c =
@@ -45,7 +45,7 @@ returns-then-at-packet c =
     sym (step_end (packet d) (place d) (placed d).least (placed d).word c.if-at-packet.true)
 
 pub past_field-next-requires : goal.past_field-next-requires
-past_field-next-requires c κs = (placed c.before).inside
+past_field-next-requires c = (placed c.before).inside
 
 pub returns-then-next-at : goal.returns-then-next-at
 returns-then-next-at c =

@@ -9,21 +9,21 @@ use Rattle.fields.proofs.header.failed_check.Goals as goal
 
 pub returns-then-not-is_size_right : goal.returns-then-not-is_size_right
 unfolding failed_check
-returns-then-not-is_size_right c = rw (sym c.is_size_right.ensures ∙ not-true _ c.if-not-is_size_right.true)
+returns-then-not-is_size_right c = rw (sym c.is_size_right.ensures ∙ c.if-not-is_size_right.true)
 
 -- past check 1
 past : (c : goal.Else-not-is_size_right) → size_right c.args.packet.now ≡ true
-past c = sym c.is_size_right.ensures ∙ not-false _ c.if-not-is_size_right.false
+past c = sym c.is_size_right.ensures ∙ c.if-not-is_size_right.false
 
 pub is_head_right-requires : goal.is_head_right-requires
-is_head_right-requires c κs =
+is_head_right-requires c =
     let p = c.args.packet.now in
     (sized p (true-T (size_right p) (past c))).least
 
 pub returns-then-not-is_head_right : goal.returns-then-not-is_head_right
 unfolding failed_check
-returns-then-not-is_head_right c = rw (past c.before.before, sym c.is_head_right.ensures ∙ not-true _ c.if-not-is_head_right.true)
+returns-then-not-is_head_right c = rw (past c.before.before, sym c.is_head_right.ensures ∙ c.if-not-is_head_right.true)
 
 pub returns : goal.returns
 unfolding failed_check
-returns c = rw (past c.before.before, sym c.is_head_right.ensures ∙ not-false _ c.if-not-is_head_right.false)
+returns c = rw (past c.before.before, sym c.is_head_right.ensures ∙ c.if-not-is_head_right.false)

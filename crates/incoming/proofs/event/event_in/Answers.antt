@@ -19,12 +19,12 @@ told : (c : goal.After-asked_lent)
 told c = rw (sheet_in-counted (start c).args.numbers.now (start c).requires) at c.asked_lent.ensures
 
 pub request-requires : goal.request-requires
-request-requires c κs =
+request-requires c =
     let arm = c.before.before in
     asked-right _ _ (told arm.before.before) arm.ssrc-1.given.1
 
 pub end-requires : goal.end-requires
-end-requires c κs =
+end-requires c =
     let arm = c.before.before in
     asked-right _ _ (told arm.before.before) arm.ssrc-in-End-1.given.1
 

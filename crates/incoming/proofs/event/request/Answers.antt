@@ -7,7 +7,7 @@ use Rattle.incoming.proofs.Laws.Found.{sender-below, sender-found, sender-unknow
 use Rattle.incoming.proofs.event.request.Goals as goal
 
 pub request_by-requires : goal.request_by-requires
-request_by-requires c κs =
+request_by-requires c =
     let found = c.before.before.before in
     let start = found.before.before in
     let eight : length start.args.senders.ssrcs ≡ 8 = search rules in

@@ -22,8 +22,8 @@ told c = rw add-sub_cancel_left at c.has_name.ensures
 
 pub returns-then-not-has_name : goal.returns-then-not-has_name
 unfolding request_by
-returns-then-not-has_name c = rw (sym (told c.before.before) ∙ not-true _ c.if-not-has_name.true) c.refused.ensures
+returns-then-not-has_name c = rw (sym (told c.before.before) ∙ c.if-not-has_name.true) c.refused.ensures
 
 pub returns : goal.returns
 unfolding request_by
-returns c = rw (sym (told c.before.before) ∙ not-false _ c.if-not-has_name.false) c.on_stream.ensures
+returns c = rw (sym (told c.before.before) ∙ c.if-not-has_name.false) c.on_stream.ensures

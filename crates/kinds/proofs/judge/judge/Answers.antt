@@ -55,7 +55,7 @@ pub bounds-slots-i : goal.bounds-slots-i
 bounds-slots-i c = slot-inside c.before
 
 pub fits-requires : goal.fits-requires
-fits-requires c κs =
+fits-requires c =
     let in-loop = c.before.before.before.before.before.before in
     judging-right in-loop.loop-at.invariant in-loop.loop-at-test.true
 
@@ -63,7 +63,7 @@ pub returns-then-not-fits : goal.returns-then-not-fits
 returns-then-not-fits c =
     let i = c.before.before.before.before in
     judged-wrong (in-loop i).loop-at.invariant (in-loop i).loop-at-test.true (slot i) (slot-told i)
-    (sym c.fits2.ensures ∙ not-true _ c.if-not-fits.true)
+    (sym c.fits2.ensures ∙ c.if-not-fits.true)
 
 pub offset_bounds-places-i : goal.offset_bounds-places-i
 offset_bounds-places-i c = omega (arith, slot-inside c.before.before.before.before)
@@ -105,7 +105,7 @@ loop-at-preserved c =
     (⊎_elim
     (λ w. rw w.6
     (judging-fills in-loop.loop-at.invariant in-loop.loop-at-test.true w.1.given.0.0 (sym used.use_of.ensures ∙ w.1.given.1)
-    (sym w.4.ensures ∙ not-false _ w.5.left)))
+    (sym w.4.ensures ∙ w.5.left)))
     (λ w. rw w.2
     (judging-skips in-loop.loop-at.invariant in-loop.loop-at-test.true (sym used.use_of.ensures ∙ w.1.given.1)))
     c.in-Fills.branch)

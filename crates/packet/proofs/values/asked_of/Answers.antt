@@ -7,17 +7,17 @@ use Rattle.kinds.proofs.Laws.Places.{place_inside}
 use Rattle.packet.proofs.values.asked_of.Goals as goal
 
 pub name_at-requires : goal.name_at-requires
-name_at-requires c κs =
+name_at-requires c =
     let start = c.before.before in
     (place_inside _ start.args.t4 0 start.requires.1 (omega arith), start.requires.0)
 
 pub name_at-requires-in-1 : goal.name_at-requires-in-1
-name_at-requires-in-1 c κs =
+name_at-requires-in-1 c =
     let start = c.before.before.before in
     (place_inside _ start.args.t4 1 start.requires.1 (omega arith), start.requires.0)
 
 pub name_at-requires-in-3 : goal.name_at-requires-in-3
-name_at-requires-in-3 c κs =
+name_at-requires-in-3 c =
     let start = c.before.before in
     (place_inside _ start.args.t4 0 start.requires.1 (omega arith), start.requires.0)
 

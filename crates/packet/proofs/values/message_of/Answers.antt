@@ -20,57 +20,57 @@ inside c =
     record { first = at 0 c.requires.3 (omega arith); second = at 1 c.requires.3 (omega arith); third = at 2 c.requires.3 (omega arith) }
 
 pub name_at-requires : goal.name_at-requires
-name_at-requires c κs =
+name_at-requires c =
     let i = inside c.before.before in
     (omega arith, c.requires.2)
 
 pub name_at-requires-in-1 : goal.name_at-requires-in-1
-name_at-requires-in-1 c κs =
+name_at-requires-in-1 c =
     let i = inside c.before.before.before in
     (omega arith, c.requires.2)
 
 pub indicator_at-requires : goal.indicator_at-requires
-indicator_at-requires c κs =
+indicator_at-requires c =
     let i = inside c.before.before.before.before in
     omega arith
 
 pub verdict_at-requires : goal.verdict_at-requires
-verdict_at-requires c κs =
+verdict_at-requires c =
     let i = inside c.before.before in
     (omega arith, omega arith)
 
 pub indicator_at-requires-in-2 : goal.indicator_at-requires-in-2
-indicator_at-requires-in-2 c κs =
+indicator_at-requires-in-2 c =
     let i = inside c.before.before.before in
     omega arith
 
 pub name_at-requires-in-3 : goal.name_at-requires-in-3
-name_at-requires-in-3 c κs =
+name_at-requires-in-3 c =
     let i = inside c.before.before in
     (omega arith, c.requires.2)
 
 pub indicator_at-requires-in-3 : goal.indicator_at-requires-in-3
-indicator_at-requires-in-3 c κs =
+indicator_at-requires-in-3 c =
     let i = inside c.before.before.before in
     omega arith
 
 pub name_at-requires-in-4 : goal.name_at-requires-in-4
-name_at-requires-in-4 c κs =
+name_at-requires-in-4 c =
     let i = inside c.before.before in
     (omega arith, c.requires.2)
 
 pub number_at-requires : goal.number_at-requires
-number_at-requires c κs =
+number_at-requires c =
     let i = inside c.before.before in
     omega arith
 
 pub indicator_at-requires-in-5 : goal.indicator_at-requires-in-5
-indicator_at-requires-in-5 c κs =
+indicator_at-requires-in-5 c =
     let i = inside c.before.before.before in
     omega arith
 
 pub number_at-requires-in_default : goal.number_at-requires-in_default
-number_at-requires-in_default c κs =
+number_at-requires-in_default c =
     let i = inside c.before.before in
     omega arith
 

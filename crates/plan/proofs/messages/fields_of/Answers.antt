@@ -8,13 +8,13 @@ use Rattle.plan.proofs.Laws.From.{fields-request, fields-response, fields-end-re
 use Rattle.plan.proofs.messages.fields_of.Goals as goal
 
 pub optional-requires : goal.optional-requires
-optional-requires c κs =
+optional-requires c =
     let keys = c.before.before in
     let start = keys.before.before.before in
     (omega arith, omega arith, fit start.args.message.now start.requires.2 _ (fits-request _ keys.in-1.keys1))
 
 pub numbered-requires : goal.numbered-requires
-numbered-requires c κs =
+numbered-requires c =
     let keys = c.before in
     let start = keys.before.before.before in
     let row = start.args.message.now in
@@ -22,25 +22,25 @@ numbered-requires c κs =
     (start.requires.0, omega arith)
 
 pub optional-requires-in-2 : goal.optional-requires-in-2
-optional-requires-in-2 c κs =
+optional-requires-in-2 c =
     let keys = c.before.before in
     let start = keys.before.before.before in
     (omega arith, omega arith, cause-optional (get_or start.args.message.now 7 0) _ (fit-verdict start.args.message.now start.requires.2 keys.in-1.keys2).0)
 
 pub optional-requires-in-2-2 : goal.optional-requires-in-2-2
-optional-requires-in-2-2 c κs =
+optional-requires-in-2-2 c =
     let keys = c.before.before.before in
     let start = keys.before.before.before in
     (omega arith, omega arith, (fit-verdict start.args.message.now start.requires.2 keys.in-1.keys2).1)
 
 pub optional-requires-in-3 : goal.optional-requires-in-3
-optional-requires-in-3 c κs =
+optional-requires-in-3 c =
     let keys = c.before in
     let start = keys.before.before.before in
     (omega arith, omega arith, fit start.args.message.now start.requires.2 _ (fits-end-request _ keys.in-1.keys3))
 
 pub later_fields-requires : goal.later_fields-requires
-later_fields-requires c κs =
+later_fields-requires c =
     let start = c.before.before.before in
     let kind = fit-kind start.args.message.now start.requires.2 in
     (none_from 1 4 _ kind.0 c.in-1.rest, start.requires.1, start.requires.2)

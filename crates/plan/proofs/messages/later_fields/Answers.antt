@@ -25,27 +25,27 @@ narrow-ack c =
     (ltb→lt (get_or row 10 0) 65536 (T-and-left (ltb (get_or row 10 0) 65536) _ both), ltb→lt (get_or row 11 0) 256 (T-and-right (ltb (get_or row 10 0) 65536) _ both))
 
 pub numbered-requires : goal.numbered-requires
-numbered-requires c κs =
+numbered-requires c =
     let keys = c.before in
     let start = keys.before.before.before in
     let row = start.args.message.now in
     (omega arith, ltb→lt (get_or row 8 0) 65536 (T-and-left (ltb (get_or row 8 0) 65536) _ (fit row start.requires.2 _ (fits-end row keys.in-5.keys1))))
 
 pub optional-requires : goal.optional-requires
-optional-requires c κs =
+optional-requires c =
     let keys = c.before.before in
     let start = keys.before.before.before in
     let row = start.args.message.now in
     (omega arith, omega arith, T-and-right (ltb (get_or row 8 0) 65536) _ (fit row start.requires.2 _ (fits-end row keys.in-5.keys1)))
 
 pub numbered-requires-in_default : goal.numbered-requires-in_default
-numbered-requires-in_default c κs = (omega arith, (narrow-ack c.before).0)
+numbered-requires-in_default c = (omega arith, (narrow-ack c.before).0)
 
 pub overflow_mul-message : goal.overflow_mul-message
 overflow_mul-message c = omega (arith, narrow-ack c.before.before.before)
 
 pub numbered-requires-in_default-2 : goal.numbered-requires-in_default-2
-numbered-requires-in_default-2 c κs = let n = narrow-ack c.before.before.before in (omega arith, omega arith)
+numbered-requires-in_default-2 c = let n = narrow-ack c.before.before.before in (omega arith, omega arith)
 
 pub returns-in-5 : goal.returns-in-5
 returns-in-5 c id = rw (c.numbered.ensures, c.optional.ensures, fields-end id _ c.in-5.keys1)

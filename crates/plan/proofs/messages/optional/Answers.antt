@@ -4,7 +4,7 @@ use Rattle.plan.proofs.Laws.Rows.{narrow-lt}
 use Rattle.plan.proofs.messages.optional.Goals as goal
 
 pub numbered-requires : goal.numbered-requires
-numbered-requires c κs = let start = c.before.before.before in (start.requires.0, narrow-lt _ start.requires.2 c.if-number.false)
+numbered-requires c = let start = c.before.before.before in (start.requires.0, narrow-lt _ start.requires.2 c.if-number.false)
 
 pub returns-then-number : goal.returns-then-number
 returns-then-number c = rw (eq-eqb _ _ c.if-number.true)

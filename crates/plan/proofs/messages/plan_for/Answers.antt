@@ -36,13 +36,13 @@ bounds-numbers-9 c = omega (arith, known c.before.before.before.before.before)
 
 pub fields_of-fields-requires : goal.fields_of-fields-requires
 unfolding sheet_from sheet_by
-fields_of-fields-requires c κs =
+fields_of-fields-requires c =
     let start = c.before.before.before.before.before in
     let id = (small _ (fitting-fits start.args.numbers.now start.requires.0)).resultid in
     (omega arith, start.requires.1, start.requires.2)
 
 pub start_of-requires : goal.start_of-requires
-start_of-requires c κs =
+start_of-requires c =
     let start = c.before.before.before.before.before.before.before in
     let k = known start in
     small-kind start.args.numbers.now (fitting-fits start.args.numbers.now start.requires.0) _ k.above k.below

@@ -13,11 +13,11 @@ use Rattle.plan.proofs.names.are_right.Goals as goal
 user : (c : goal.Joined-kind-eq1)
     → let a = c.args in
     pick (eqb (get_or a.message.now 0 0) 1) (name_right_at a.names.now a.message.now 3) true ≡ true
-user c = ⊎_elim (λ w. rw w.0.taken (sym w.1.ensures ∙ not-false _ w.2.left)) (λ w. rw (ne_eqb _ 1 w.left)) c.if-kind-eq1.branch
+user c = ⊎_elim (λ w. rw w.0.taken (sym w.1.ensures ∙ w.2.left)) (λ w. rw (ne_eqb _ 1 w.left)) c.if-kind-eq1.branch
 
 pub returns-then-not-is_right : goal.returns-then-not-is_right
 unfolding names_right
-returns-then-not-is_right c = rw (c.if-kind-eq1.true, sym c.is_right.ensures ∙ not-true _ c.if-not-is_right.true)
+returns-then-not-is_right c = rw (c.if-kind-eq1.true, sym c.is_right.ensures ∙ c.if-not-is_right.true)
 
 pub returns-then-kind : goal.returns-then-kind
 unfolding names_right

@@ -33,7 +33,7 @@ returns-then-not-stands c =
     let at = judged.before.before.before.before.before in
     let row = at.args.message.now in
     sym (at.loop-i.invariant.1 ∙ stands-next (span_for (get_or row 0 0)) row at.loop-i.i (omega (arith, at.requires))
-    ∙ rw (judged-is judged ∙ not-true _ c.if-not-stands.true))
+    ∙ rw (judged-is judged ∙ c.if-not-stands.true))
 
 pub loop-i-preserved : goal.loop-i-preserved
 loop-i-preserved c =
@@ -42,7 +42,7 @@ loop-i-preserved c =
     let row = at.args.message.now in (
       omega arith,
       at.loop-i.invariant.1 ∙ stands-next (span_for (get_or row 0 0)) row at.loop-i.i (omega (arith, at.requires))
-          ∙ rw (judged-is judged ∙ not-false _ c.if-not-stands.false),
+          ∙ rw (judged-is judged ∙ c.if-not-stands.false),
     )
 
 pub returns : goal.returns

@@ -14,14 +14,14 @@ pub returns-then-row-ne-ATTEMPT : goal.returns-then-row-ne-ATTEMPT
 returns-then-row-ne-ATTEMPT c = sym (attempt-miscounted c.args.row.now c.if-row-ne-ATTEMPT.true)
 
 pub returns-then-not-are_octets : goal.returns-then-not-are_octets
-returns-then-not-are_octets c = sym (attempt-unheld c.args.row.now (sym c.are_octets.ensures ∙ not-true _ c.if-not-are_octets.true))
+returns-then-not-are_octets c = sym (attempt-unheld c.args.row.now (sym c.are_octets.ensures ∙ c.if-not-are_octets.true))
 
 -- past the second test the five are right
 right : (c : goal.Else-not-are_octets) → T (octets_right c.args.row.now)
-right c = true-T _ (sym c.are_octets.ensures ∙ not-false _ c.if-not-are_octets.false)
+right c = true-T _ (sym c.are_octets.ensures ∙ c.if-not-are_octets.false)
 
 pub attempt_with-requires : goal.attempt_with-requires
-attempt_with-requires c κs = let else2 = c.before.before.before.before.before in (else2.if-row-ne-ATTEMPT.false, right else2)
+attempt_with-requires c = let else2 = c.before.before.before.before.before in (else2.if-row-ne-ATTEMPT.false, right else2)
 
 -- the answer is looked for in what is left of the row behind the five
 answer : (c : goal.After-answer_in)

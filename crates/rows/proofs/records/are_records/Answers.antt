@@ -23,14 +23,14 @@ returns-then-not-is_phase c =
     let l = c.before.before.before.before in
     let octets = l.args.octets.now in
     let step = from_step octets l.loop-at.at (omega arith) in
-    rw (records-counted 8 octets l.if-octets-ne-RECORDS.false, l.loop-at.invariant.2, step, sym c.is_phase.ensures ∙ not-true _ c.if-not-is_phase.true)
+    rw (records-counted 8 octets l.if-octets-ne-RECORDS.false, l.loop-at.invariant.2, step, sym c.is_phase.ensures ∙ c.if-not-is_phase.true)
 
 pub loop-at-preserved : goal.loop-at-preserved
 loop-at-preserved c =
     let l = c.before.before.before.before in
     let octets = l.args.octets.now in
     let step = from_step octets l.loop-at.at (omega arith) in
-    (omega arith, omega arith, l.loop-at.invariant.2 ∙ (step ∙ rw (sym c.is_phase.ensures ∙ not-false _ c.if-not-is_phase.false)))
+    (omega arith, omega arith, l.loop-at.invariant.2 ∙ (step ∙ rw (sym c.is_phase.ensures ∙ c.if-not-is_phase.false)))
 
 pub returns : goal.returns
 unfolding records_from

@@ -14,11 +14,11 @@ overflow_cast-phase c = omega (arith, c.shared_slice_known-2-1.given 0)
 pub returns-then-not-is_phase : goal.returns-then-not-is_phase
 returns-then-not-is_phase c =
     let judged = c.before in
-    sym (no_record _ judged.if-octets-ne-RECORD.false (sym judged.is_phase.ensures ∙ not-true _ c.if-not-is_phase.true))
+    sym (no_record _ judged.if-octets-ne-RECORD.false (sym judged.is_phase.ensures ∙ c.if-not-is_phase.true))
 
 pub returns : goal.returns
 returns c =
     let else2 = c.before.before in
     let judged = else2.before in
-    let phase = leb-true _ 3 (sym (phase_in_range _) ∙ (sym judged.is_phase.ensures ∙ not-false _ else2.if-not-is_phase.false)) in
+    let phase = leb-true _ 3 (sym (phase_in_range _) ∙ (sym judged.is_phase.ensures ∙ else2.if-not-is_phase.false)) in
     rw c.record_of.ensures (sym (one_record _ judged.if-octets-ne-RECORD.false phase))

@@ -9,7 +9,7 @@ use Rattle.seats.proofs.find.is_new_name.Goals as goal
 pub returns-then-not-is_user_id : goal.returns-then-not-is_user_id
 returns-then-not-is_user_id c =
     let a = c.args in
-    sym (newName-bad a.seats a.users.now a.name.now (sym c.is_user_id.ensures ∙ not-true _ c.if-not-is_user_id.true))
+    sym (newName-bad a.seats a.users.now a.name.now (sym c.is_user_id.ensures ∙ c.if-not-is_user_id.true))
 
 pub returns-in-Seat : goal.returns-in-Seat
 returns-in-Seat c =
@@ -21,5 +21,5 @@ returns-in-Nobody c =
     let else1 = c.before.before.before in
     let a = else1.args in
     sym (newName-free a.seats a.users.now a.name.now
-    (sym else1.is_user_id.ensures ∙ not-false _ else1.if-not-is_user_id.false)
+    (sym else1.is_user_id.ensures ∙ else1.if-not-is_user_id.false)
     (sym c.by_user-found.ensures ∙ ap found_said c.enum_told-in-Nobody-1.given.1))

@@ -10,7 +10,7 @@ use Rattle.seats.proofs.row.is_same_row.Goals as goal
 pub returns-then-not-is_same : goal.returns-then-not-is_same
 returns-then-not-is_same c =
     let a = c.args in
-    sym (same-take-false 32 a.a.now a.b.now (sym c.is_same.ensures ∙ not-true _ c.if-not-is_same.true))
+    sym (same-take-false 32 a.a.now a.b.now (sym c.is_same.ensures ∙ c.if-not-is_same.true))
 
 pub returns : goal.returns
 returns c =

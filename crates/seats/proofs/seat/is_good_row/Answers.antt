@@ -39,7 +39,7 @@ returns-then-not-is_user_id c =
     let after = else1.before in
     let a = after.args in
     sym (used-bad a.seats a.users.now a.s after.row2.given.0 else1.if-seats-s.false
-    (sym (named c.before) ∙ not-true _ c.if-not-is_user_id.true))
+    (sym (named c.before) ∙ c.if-not-is_user_id.true))
 
 pub returns : goal.returns
 returns c =
@@ -49,5 +49,5 @@ returns c =
     let start = after.before.before.before in
     let a = start.args in
     used-new a.seats a.users.now a.s after.row2.given.0 else1.if-seats-s.false
-    (true-T _ (sym (named else2.before) ∙ not-false _ else2.if-not-is_user_id.false))
+    (true-T _ (sym (named else2.before) ∙ else2.if-not-is_user_id.false))
     start.requires.1 _ c.is_new_row.ensures

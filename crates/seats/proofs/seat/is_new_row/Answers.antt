@@ -13,7 +13,7 @@ pub loop-i-init : goal.loop-i-init
 loop-i-init c = (search rules, below_none _)
 
 pub is_same_row-requires : goal.is_same_row-requires
-is_same_row-requires c κs = (c.is-same-row-arg2.given.0, c.row2.given.0)
+is_same_row-requires c = (c.is-same-row-arg2.given.0, c.row2.given.0)
 
 pub returns-then-is_same_row : goal.returns-then-is_same_row
 returns-then-is_same_row c =

@@ -21,7 +21,7 @@ returns-then-row-n c =
 pub returns-then-not-ends_at : goal.returns-then-not-ends_at
 returns-then-not-ends_at c =
     let a = c.args in
-    let ends = sym c.ends_at.ensures ∙ not-true _ c.if-not-ends_at.true in
+    let ends = sym c.ends_at.ensures ∙ c.if-not-ends_at.true in
     sym (same-name_of a.row.now a.name.now ∙ rw ends)
 
 -- what is left to ask behind the second question
@@ -30,7 +30,7 @@ asked : (c : goal.After-is_same) → let a = c.args in
 asked c =
     let else2 = c.before in
     let a = else2.args in
-    let ends = sym else2.ends_at.ensures ∙ not-false _ else2.if-not-ends_at.false in
+    let ends = sym else2.ends_at.ensures ∙ else2.if-not-ends_at.false in
     same-name_of a.row.now a.name.now ∙ rw (ends, c.is_same.ensures, take_all (length a.name.now) a.name.now (omega arith))
 
 pub returns-then-not-is_same : goal.returns-then-not-is_same

@@ -13,14 +13,14 @@ pub returns-then-not-is_visible : goal.returns-then-not-is_visible
 returns-then-not-is_visible c =
     let text = c.args.text.now in
     let i = c.loop-i.i in
-    let e = sym c.is_visible.ensures ∙ not-true _ c.if-not-is_visible.true in
+    let e = sym c.is_visible.ensures ∙ c.if-not-is_visible.true in
     omega (arith, ap length (front-drop-false visible text i (omega arith) e))
 
 pub loop-i-preserved : goal.loop-i-preserved
 loop-i-preserved c =
     let text = c.args.text.now in
     let i = c.loop-i.i in
-    let e = sym c.is_visible.ensures ∙ not-false _ c.if-not-is_visible.false in
+    let e = sym c.is_visible.ensures ∙ c.if-not-is_visible.false in
     omega (arith, ap length (front-drop-true visible text i (omega arith) e))
 
 pub returns : goal.returns

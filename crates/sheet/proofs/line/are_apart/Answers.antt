@@ -21,19 +21,19 @@ pub loop-k-init : goal.loop-k-init
 loop-k-init c = (omega arith, λ i l h. absurd (omega arith))
 
 pub is_apart-requires : goal.is_apart-requires
-is_apart-requires c κs =
+is_apart-requires c =
     let rule = c.rule_of-rule.ensures in
     (omega arith, rw rule.family rule.eldest)
 
 pub returns-then-not-is_apart : goal.returns-then-not-is_apart
 returns-then-not-is_apart c =
     let at-loop = c.before.before.before in
-    ((λ t. absurd t), λ good. false-T _ (sym (judged c.before) ∙ not-true _ c.if-not-is_apart.true) (good _ c.loop-k-test.true at-loop.loop-k.invariant.0))
+    ((λ t. absurd t), λ good. false-T _ (sym (judged c.before) ∙ c.if-not-is_apart.true) (good _ c.loop-k-test.true at-loop.loop-k.invariant.0))
 
 pub loop-k-preserved : goal.loop-k-preserved
 loop-k-preserved c =
     let at-loop = c.before.before.before in
-    (omega arith, below_more _ _ at-loop.loop-k.invariant.1 (λ h. true-T _ (sym (judged c.before) ∙ not-false _ c.if-not-is_apart.false)))
+    (omega arith, below_more _ _ at-loop.loop-k.invariant.1 (λ h. true-T _ (sym (judged c.before) ∙ c.if-not-is_apart.false)))
 
 pub returns : goal.returns
 returns c = ((λ t i h. c.loop-k.invariant.1 i (omega arith)), λ good. tt)

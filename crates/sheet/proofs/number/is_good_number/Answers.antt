@@ -18,17 +18,17 @@ judged : (c : goal.After-is_within)
 judged c = c.is_within.ensures ∙ rule-between c.rule_of-rule.ensures _
 
 pub returns-then-not-is_within : goal.returns-then-not-is_within
-returns-then-not-is_within c = sym (good_number-by _ _ ∙ rw (sym (judged c.before) ∙ not-true _ c.if-not-is_within.true))
+returns-then-not-is_within c = sym (good_number-by _ _ ∙ rw (sym (judged c.before) ∙ c.if-not-is_within.true))
 
 pub overflow_cast-n : goal.overflow_cast-n
 overflow_cast-n c =
     let a = c.args in
     let k = length a.earlier.now in
     let r = row_at k in
-    omega (arith, greatest-cap k, leb-true a.n r.greatest (and-true_right (leb r.least a.n) _ (sym (judged c.before) ∙ not-false _ c.if-not-is_within.false)))
+    omega (arith, greatest-cap k, leb-true a.n r.greatest (and-true_right (leb r.least a.n) _ (sym (judged c.before) ∙ c.if-not-is_within.false)))
 
 pub is_taken-requires : goal.is_taken-requires
-is_taken-requires c κs =
+is_taken-requires c =
     let rule = c.rule_of-rule.ensures in
     rw rule.family rule.eldest
 
@@ -36,4 +36,4 @@ pub returns : goal.returns
 returns c =
     let else1 = c.before in
     let rule = else1.rule_of-rule.ensures in
-    sym (good_number-by _ _ ∙ rw (sym (judged else1.before) ∙ not-false _ else1.if-not-is_within.false, c.is_taken.ensures, rule.family))
+    sym (good_number-by _ _ ∙ rw (sym (judged else1.before) ∙ else1.if-not-is_within.false, c.is_taken.ensures, rule.family))

@@ -25,7 +25,7 @@ returns-then-numbers-ne-LINES c = sym (other-not-valid _ c.if-numbers-ne-LINES.t
 
 pub are_within-requires : goal.are_within-requires
 unfolding number_lines table
-are_within-requires c κs = search rules
+are_within-requires c = search rules
 
 pub returns-then-not-are_within : goal.returns-then-not-are_within
 returns-then-not-are_within c =
@@ -55,8 +55,8 @@ returns c =
     test-eq _ _
     (λ t. right_valid _ long (λ k. omega (arith, read.shared_slice_known-2-1.given k))
     (record {
-      bounds = within.are_within.ensures.0 (true-T within.are_within.result (not-false _ read.if-not-are_within.false));
-      apart-five = apart.are_apart.ensures.0 (true-T apart.are_apart.result (not-false _ c.if-not-are_apart.false));
+      bounds = within.are_within.ensures.0 (true-T within.are_within.result (read.if-not-are_within.false));
+      apart-five = apart.are_apart.ensures.0 (true-T apart.are_apart.result (c.if-not-are_apart.false));
       apart-seats = λ k h. c.are_apart-2.ensures.0 t k (omega arith);
     }))
     (λ v. c.are_apart-2.ensures.1 (λ k h. (valid-right _ long v).apart-seats k (omega arith)))

@@ -59,7 +59,7 @@ returns-then-not-is_good_number c =
     let f = c.before.before.before.before in
     let a = (start f).args in
     judged-no-number a.text.now a.at a.k a.numbers.now a.users.now (number f) (from f) (end f) (good-told f)
-    (sym c.is_good_number.ensures ∙ not-true _ c.if-not-is_good_number.true)
+    (sym c.is_good_number.ensures ∙ c.if-not-is_good_number.true)
 
 pub returns-then-k-lt-NUMBER_LINES : goal.returns-then-k-lt-NUMBER_LINES
 unfolding number_lines table
@@ -67,7 +67,7 @@ returns-then-k-lt-NUMBER_LINES c =
     let f = c.before.before.before.before.before in
     let a = (start f).args in
     judged-alone a.text.now a.at a.k a.numbers.now a.users.now (number f) (from f) (end f) (good-told f)
-    (sym c.is_good_number.ensures ∙ not-false _ c.if-not-is_good_number.false)
+    (sym c.is_good_number.ensures ∙ c.if-not-is_good_number.false)
     c.if-k-lt-NUMBER_LINES.true
 
 pub slice_bounds-is_new_name-count : goal.slice_bounds-is_new_name-count
@@ -87,7 +87,7 @@ returns-then-is_new_name c =
     let f = c.before.before.before.before.before.before.before.before in
     let a = (start f).args in
     judged-seat a.text.now a.at a.k a.numbers.now a.users.now (number f) (from f) (end f) (good-told f)
-    (sym c.is_good_number.ensures ∙ not-false _ c.if-not-is_good_number.false)
+    (sym c.is_good_number.ensures ∙ c.if-not-is_good_number.false)
     c.if-k-lt-NUMBER_LINES.false
     (sym (name-told c.before) ∙ c.if-is_new_name.true)
 
@@ -97,6 +97,6 @@ returns-else-is_new_name c =
     let f = c.before.before.before.before.before.before.before.before in
     let a = (start f).args in
     judged-no-seat a.text.now a.at a.k a.numbers.now a.users.now (number f) (from f) (end f) (good-told f)
-    (sym c.is_good_number.ensures ∙ not-false _ c.if-not-is_good_number.false)
+    (sym c.is_good_number.ensures ∙ c.if-not-is_good_number.false)
     c.if-k-lt-NUMBER_LINES.false
     (sym (name-told c.before) ∙ c.if-is_new_name.false)

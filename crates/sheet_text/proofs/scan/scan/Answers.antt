@@ -60,13 +60,13 @@ unfolding number_lines table seats_line most_seats
 overflow_add-numbers c = omega (arith, scanned-room c.loop-k.invariant)
 
 pub judged-requires : goal.judged-requires
-judged-requires c κs = room c.before.before
+judged-requires c = room c.before.before
 
 pub overflow_add-k : goal.overflow_add-k
 overflow_add-k c = omega (arith, room c.before.before.before.before.before)
 
 pub refused-requires : goal.refused-requires
-refused-requires c κs = omega (arith, room c.before.before.before.before.before)
+refused-requires c = omega (arith, room c.before.before.before.before.before)
 
 pub returns-in_default : goal.returns-in_default
 unfolding JudgedIs reading_of

@@ -7,7 +7,7 @@ use Rattle.octets.proofs.Buffer.{length-put_at, set-put_at-then}
 use Rattle.shown.proofs.decimal.put_line.Goals as goal
 
 pub put-end-requires : goal.put-end-requires
-put-end-requires c κs =
+put-end-requires c =
     let first = ap length c.put_octets.ensures ∙ length-put_at _ _ _ in
     let room = simp length-append at c.requires in
     omega arith

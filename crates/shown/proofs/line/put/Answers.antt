@@ -31,7 +31,7 @@ slice_bounds-put-end c =
     packet-length _ packet.result packet.ensures
 
 pub put-requires : goal.put-requires
-put-requires c κs =
+put-requires c =
     let read = c.before.before in
     let packet = read.before.before.before in
     let a = packet.args in

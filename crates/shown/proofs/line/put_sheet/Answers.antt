@@ -14,7 +14,7 @@ returns-then-behind-length_of c =
     rw (fitting-none (length line) (length a.out-1.now) a.at line (omega (arith, length-sheet_line a.line))) (sym (put_at-nil _ _), omega arith)
 
 pub put_line-requires : goal.put_line-requires
-put_line-requires c κs = simp length-append (omega arith)
+put_line-requires c = simp length-append (omega arith)
 
 pub returns : goal.returns
 returns c =

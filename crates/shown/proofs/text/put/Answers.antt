@@ -4,7 +4,7 @@ use Rattle.shown.proofs.Laws.Values.{text_of-row}
 use Rattle.shown.proofs.text.put.Goals as goal
 
 pub put_ten-requires : goal.put_ten-requires
-put_ten-requires c κs =
+put_ten-requires c =
     let start = c.before.before.before.before.before.before.before in
     let m = c.reading-1.given in
     let ten = c.row_of in
@@ -12,7 +12,7 @@ put_ten-requires c κs =
 
 pub put_line-requires : goal.put_line-requires
 unfolding text_of number_line
-put_line-requires c κs = rw c.reading-in-Refused-1.given.1 at c.requires
+put_line-requires c = rw c.reading-in-Refused-1.given.1 at c.requires
 
 pub returns-in-Read : goal.returns-in-Read
 returns-in-Read c =

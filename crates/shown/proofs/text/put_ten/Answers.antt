@@ -6,7 +6,7 @@ use Rattle.shown.proofs.Laws.Values.{length-ten_line}
 use Rattle.shown.proofs.text.put_ten.Goals as goal
 
 pub put-end-requires : goal.put-end-requires
-put-end-requires c κs =
+put-end-requires c =
     let start = c.before.before.before in
     omega (arith, length-ten_line start.args.packet.now start.args.row)
 

@@ -40,7 +40,7 @@ module _ (c : goal.Start) where
       omega (arith, named, c.requires.3)
 
 pub put_value-requires : goal.put_value-requires
-put_value-requires c κs =
+put_value-requires c =
     let start = c.before.before.before.before.before.before.before.before.before in
     rw (c.value_in.ensures, c.put_octets.ensures, length-put_at) (omega (arith, room start))
 

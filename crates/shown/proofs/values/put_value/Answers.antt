@@ -13,7 +13,7 @@ bounds-out-at c =
 
 pub put-requires : goal.put-requires
 unfolding value_text
-put-requires c κs = rw c.enum_told-in-Given-1.given.1 at c.requires
+put-requires c = rw c.enum_told-in-Given-1.given.1 at c.requires
 
 pub returns-in-Absent : goal.returns-in-Absent
 unfolding value_text

@@ -35,11 +35,11 @@ pub returns-then-not-are_below : goal.returns-then-not-are_below
 unfolding good_receivers
 returns-then-not-are_below c =
     let tested = c.before.before in
-    rw (some tested.before.before, none-own tested, within c.before ∙ not-true _ c.if-not-are_below.true)
+    rw (some tested.before.before, none-own tested, within c.before ∙ c.if-not-are_below.true)
 
 pub returns : goal.returns
 unfolding good_receivers
 returns c =
     let passed = c.before.before in
     let tested = passed.before.before in
-    rw (some tested.before.before, none-own tested, within passed.before ∙ not-false _ passed.if-not-are_below.false, c.count_of.ensures)
+    rw (some tested.before.before, none-own tested, within passed.before ∙ passed.if-not-are_below.false, c.count_of.ensures)

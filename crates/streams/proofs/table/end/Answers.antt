@@ -17,16 +17,16 @@ told c = sym c.has.ensures
 
 pub returns-then-not-has : goal.returns-then-not-has
 unfolding on_end
-returns-then-not-has c = rw (c.with_answer.ensures.0, c.with_answer.ensures.1, told c.before.before ∙ not-true _ c.if-not-has.true)
+returns-then-not-has c = rw (c.with_answer.ensures.0, c.with_answer.ensures.1, told c.before.before ∙ c.if-not-has.true)
 
 -- past the first test the seat is watching
 watching : (c : goal.Else-not-has)
     → let a = c.args in
     watches a.own.receivers a.by ≡ true
-watching c = told c.before ∙ not-false _ c.if-not-has.false
+watching c = told c.before ∙ c.if-not-has.false
 
 pub without-left-requires : goal.without-left-requires
-without-left-requires c κs = true-T _ (watching c)
+without-left-requires c = true-T _ (watching c)
 
 pub returns-then-left-eq0 : goal.returns-then-left-eq0
 unfolding on_end after_clearing

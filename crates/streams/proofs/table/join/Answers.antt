@@ -33,7 +33,7 @@ returns-then-rules-count_of c =
     rw (c.with_answer-then-rules-count_of.ensures.0, c.with_answer-then-rules-count_of.ensures.1, not-watching counted.before, ← counted.count_of.ensures, full)
 
 pub with-requires : goal.with-requires
-with-requires c κs = (c.requires, not-watching c.before.before.before)
+with-requires c = (c.requires, not-watching c.before.before.before)
 
 pub returns : goal.returns
 unfolding joined

@@ -29,17 +29,17 @@ puts-fields s names plan t h =
     )
 
 pub put_part-at-requires : goal.put_part-at-requires
-put_part-at-requires c κs =
+put_part-at-requires c =
     let start = c.before.before.before in
     ((parts-right start.args.names.now start.args.plan start.requires.0).0, omega arith)
 
 pub put_part-at-requires-2 : goal.put_part-at-requires-2
-put_part-at-requires-2 c κs =
+put_part-at-requires-2 c =
     let start = c.before.before.before.before.before.before.before in
     ((parts-right start.args.names.now start.args.plan start.requires.0).1, omega arith)
 
 pub put_part-requires : goal.put_part-requires
-put_part-requires c κs =
+put_part-requires c =
     let start = c.before.before.before.before.before.before.before.before.before.before.before in
     ((parts-right start.args.names.now start.args.plan start.requires.0).2, omega arith)
 

@@ -29,10 +29,10 @@ told c =
     subst (λ (x : Part). T (part_right a.names.now x) × (a.at + part_size x ≤ length a.s-1.now)) c.part-in-Named-1.given.1 (start c).requires
 
 pub put_word-requires : goal.put_word-requires
-put_word-requires c κs = rw c.part-1.given.1 at c.requires.1
+put_word-requires c = rw c.part-1.given.1 at c.requires.1
 
 pub put_user-requires : goal.put_user-requires
-put_user-requires c κs =
+put_user-requires c =
     let p = c.before.before.before.before.before in
     let names = (start p).args.names.now in
     rw (add-sub_cancel_left, length-name names (name p) (told p).0) (name-short names (name p) (told p).0, (told p).1)
