@@ -5,9 +5,9 @@ ghost use Rattle.std.specs.Prelude.{◌≡◌, ◌+◌, ◌≤◌, ◌<◌, leng
 ghost use Rattle.look.specs.Steps.{state_of, look_as, step_of, end_of};
 ghost use Rattle.mcvlook.specs.Gathered.{Gathers};
 
-use libc::{STDIN_FILENO, STDOUT_FILENO};
 use look::{Look, Stepped};
 use shown::Printing;
+use std::io::{Print, Read, Stdin, Stdout};
 
 // Input is read in pieces of at most so many octets; output is written once as many are gathered, and at the end.
 const PIECE: usize = 16384;
@@ -44,7 +44,7 @@ fn gather_last(look: Look, out: &mut [u8], gathered: usize) -> usize
 }
 
 // Writes what is gathered, where it fills a piece.
-fn write_some(look: Look, out: &[u8], gathered: usize) -> Turn
+fn write_some(stdout: Stdout, look: Look, out: &[u8], gathered: usize) -> Turn
     requires { gathered ≤ length out.now }
     ensures { result.gathered < 16384 }
 {
@@ -58,16 +58,16 @@ fn write_some(look: Look, out: &[u8], gathered: usize) -> Turn
     Turn {
         look,
         gathered: 0,
-        goes_on: io::write_all(STDOUT_FILENO, &out[..gathered]),
+        goes_on: stdout.write_all(&out[..gathered]).is_ok(),
     }
 }
 
 // Writes all that is gathered, and ends.
-fn finish(look: Look, out: &[u8], gathered: usize) -> Turn
+fn finish(stdout: Stdout, look: Look, out: &[u8], gathered: usize) -> Turn
     requires { gathered ≤ length out.now }
     ensures { result.gathered < 16384 }
 {
-    io::write_all(STDOUT_FILENO, &out[..gathered]);
+    let _ = stdout.write_all(&out[..gathered]);
     Turn {
         look,
         gathered: 0,
@@ -77,38 +77,42 @@ fn finish(look: Look, out: &[u8], gathered: usize) -> Turn
 
 // Reads a piece, and prints and writes what comes of it. At the end of the input, where a read fails, and behind a refused sheet, all that is
 // gathered is written.
-fn take_turn(look: Look, out: &mut [u8], gathered: usize) -> Turn
+fn take_turn(
+    mut stdin: Stdin,
+    stdout: Stdout,
+    look: Look,
+    out: &mut [u8],
+    gathered: usize,
+) -> Turn
     requires { (gathered < 16384) × (length out.old ≡ 196608) }
     ensures { result.gathered < 16384 }
 {
     let mut piece = [0u8; PIECE];
-    let got = libc::read(STDIN_FILENO, &mut piece);
-    if got < 0 {
-        return finish(look, out, gathered);
-    }
-    let n = io::count(got, &piece);
+    let Ok(n) = stdin.read(&mut piece) else {
+        return finish(stdout, look, out, gathered);
+    };
     if n == 0 {
         let end = gather_last(look, out, gathered);
-        return finish(look, out, end);
+        return finish(stdout, look, out, end);
     }
     let stepped = gather(look, &piece[..n], out, gathered);
     let end = gathered + stepped.written;
     let kept = stepped.look;
     if look::is_refused(kept) {
-        return finish(kept, out, end);
+        return finish(stdout, kept, out, end);
     }
-    write_some(kept, out, end)
+    write_some(stdout, kept, out, end)
 }
 
 // A proved loop has to end, and nothing says that the input does: the turns are counted down, from a number that no run uses up.
-fn look_through(out: &mut [u8])
+fn look_through(stdin: Stdin, stdout: Stdout, out: &mut [u8])
     requires { length out.old ≡ 196608 }
 {
     let mut look = look::start();
     let mut gathered = 0;
     let mut turns = u64::MAX;
     while 0 < turns {
-        let turn = take_turn(look, out, gathered);
+        let turn = take_turn(stdin, stdout, look, out, gathered);
         if !turn.goes_on {
             break;
         }
@@ -118,7 +122,7 @@ fn look_through(out: &mut [u8])
     }
 }
 
-fn main() {
+fn main(rt: HostRuntime) {
     let mut out = [0u8; OUT];
-    look_through(&mut out);
+    look_through(rt.stdin(), rt.stdout(), &mut out);
 }

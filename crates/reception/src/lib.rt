@@ -68,6 +68,7 @@ fn refusal(number: u32) -> Refusal
 }
 
 // The records to start with: all streams free.
+#[tactic(auto, unfolding(sheet::specs::Table::most_seats))]
 pub fn all_free() -> Streams
     ensures { all_free≡ result }
 {
@@ -75,6 +76,7 @@ pub fn all_free() -> Streams
 }
 
 // What the rules look at on a sheet whose numbers are lent.
+#[tactic(auto, unfolding(sheet::specs::Value::sheet_from, sheet::specs::Value::sheet_by))]
 fn rules_in(numbers: &[u32]) -> Rules
     requires { length numbers.now ≡ 19 }
     ensures { result ≡ rules_of (sheet_from numbers.now) }
@@ -137,6 +139,7 @@ fn own_of(records: Streams, stream: u8) -> Record
 }
 
 // The record of a stream, or 12 line 0 or 9, a sheet's numbers lent.
+#[tactic(auto, unfolding(crate::specs::Steps::read_of))]
 pub fn read_lent(numbers: &[u32], records: Streams, stream: u8) -> Seen
     ensures { read≡ (sheet_in numbers.now) records stream result }
 {
@@ -191,6 +194,7 @@ pub fn work_out(sheet: Sheet, seen: Record, event: Event) -> Worked
 }
 
 // What a store says where the stream's own record is known and legal.
+#[tactic(auto, unfolding(crate::specs::Inner::settled))]
 fn settle(rules: Rules, attempt: Attempt, own: Record) -> Taking
     ensures { taking_said result ≡ settled rules (attempt_said attempt) own }
 {
@@ -250,6 +254,7 @@ pub fn store(sheet: Sheet, attempt: Attempt, records: Streams) -> Stored
 }
 
 // C11, the number of seats that watch a stream whose own record is at hand, or 12 line 0 or 9. A sheet's numbers are lent.
+#[tactic(auto, unfolding(crate::specs::Steps::counted))]
 pub fn counted_lent(numbers: &[u32], own: Record, stream: u8) -> Counted
     ensures { counted≡ (sheet_in numbers.now) own stream result }
 {
@@ -260,6 +265,7 @@ pub fn counted_lent(numbers: &[u32], own: Record, stream: u8) -> Counted
 }
 
 // The same of one of eight records.
+#[tactic(auto, unfolding(crate::specs::Steps::count_of))]
 pub fn count_lent(numbers: &[u32], records: Streams, stream: u8) -> Counted
     ensures { count≡ (sheet_in numbers.now) records stream result }
 {

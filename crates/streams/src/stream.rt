@@ -91,6 +91,7 @@ pub fn is_same(x: Record, y: Record) -> bool
 }
 
 // Whether its byte may be that of a watched stream.
+#[tactic(auto, unfolding(crate::specs::Record::good_receivers))]
 fn is_good(rules: Rules, stream: u8, own: Record) -> bool
     ensures { result ≡ good_receivers rules stream own }
 {
@@ -108,6 +109,7 @@ fn is_good(rules: Rules, stream: u8, own: Record) -> bool
 }
 
 // Whether a record is legal for a stream.
+#[tactic(auto, unfolding(crate::specs::Record::legal, crate::specs::Record::legal_in))]
 pub fn is_legal(rules: Rules, stream: u8, own: Record) -> bool
     ensures { is_legal≡ rules stream own result }
 {

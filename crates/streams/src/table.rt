@@ -31,6 +31,7 @@ fn with_answer(becomes: Record, answer: Answer) -> Change
 }
 
 // A request by a seat other than the transmitter, for a stream that is open; `granted` is the answer to one that sets the bit.
+#[tactic(auto, unfolding(crate::specs::Table::joined))]
 fn join(rules: Rules, own: Record, by: u8, granted: Answer) -> Change
     requires { by < 8 }
     ensures { change_said result ≡ joined rules own by (answer_said granted) }
@@ -46,6 +47,7 @@ fn join(rules: Rules, own: Record, by: u8, granted: Answer) -> Change
 }
 
 // "request by r". One by a seat that has no bit in the byte of receivers is discarded.
+#[tactic(auto, unfolding(crate::specs::Table::change_for, crate::specs::Table::rule_for, crate::specs::Table::on_request, crate::specs::Table::joined, sheet::specs::Table::most_seats))]
 fn request(rules: Rules, stream: u8, own: Record, by: u8) -> Change
     ensures { change_said result ≡ change_for rules stream own (Request by) }
 {
@@ -65,6 +67,7 @@ fn request(rules: Rules, stream: u8, own: Record, by: u8) -> Change
 }
 
 // "end by r".
+#[tactic(auto, unfolding(crate::specs::Table::on_end, crate::specs::Table::after_clearing))]
 fn end(own: Record, by: u8) -> Change
     ensures { change_said result ≡ on_end own by }
 {
@@ -80,6 +83,7 @@ fn end(own: Record, by: u8) -> Change
 }
 
 // "open".
+#[tactic(auto, unfolding(crate::specs::Table::on_open))]
 fn open(own: Record) -> Change
     ensures { change_said result ≡ on_open own }
 {
@@ -93,6 +97,7 @@ fn open(own: Record) -> Change
 }
 
 // "T11 expired".
+#[tactic(auto, unfolding(crate::specs::Table::on_t11))]
 fn t11(own: Record) -> Change
     ensures { change_said result ≡ on_t11 own }
 {
@@ -107,6 +112,7 @@ fn t11(own: Record) -> Change
 }
 
 // The answer to an end response that frees the stream.
+#[tactic(auto, unfolding(crate::specs::Table::on_end_response))]
 fn freed(ack: bool) -> Answer
     ensures { answer_said result ≡ (on_end_response ending ack).reply }
 {
@@ -117,6 +123,7 @@ fn freed(ack: bool) -> Answer
 }
 
 // "end response from s".
+#[tactic(auto, unfolding(crate::specs::Table::on_end_response))]
 fn end_response(own: Record, ack: bool) -> Change
     ensures { change_said result ≡ on_end_response own ack }
 {
@@ -130,6 +137,7 @@ fn end_response(own: Record, ack: bool) -> Change
 }
 
 // "release".
+#[tactic(auto, unfolding(crate::specs::Table::on_release))]
 fn release(own: Record) -> Change
     ensures { change_said result ≡ on_release own }
 {
@@ -157,6 +165,7 @@ pub fn is_sender_on(rules: Rules, what: What) -> bool
 }
 
 // What an event makes of a stream's record. A request by a seat that has no bit in the byte of receivers, and so is on no sheet, is discarded.
+#[tactic(auto, unfolding(crate::specs::Table::change_for, crate::specs::Table::rule_for))]
 pub fn change_of(rules: Rules, stream: u8, own: Record, what: What) -> Change
     ensures { change_of≡ rules stream own what result }
 {

@@ -1,5 +1,5 @@
 -- `face::mcv_field` meets its contract: the field, the end or the refusal at the place, each put or told. Assumes nothing.
-use mathlib.Core.Path.{sym, ap, ◌∙◌, subst}
+use mathlib.Core.Path.{sym, ap, ◌∙◌, ◌≡◌, subst}
 use mathlib.Core.List.{List}
 use Prim.Native.Nat.{ℕ, ◌+◌, ◌<◌, ◌≤◌}
 use native.Mathlib.Omega.{arith}
@@ -32,38 +32,27 @@ small p at octets =
     (λ _. (omega arith, omega arith))
 
 -- and so it is of what was answered
-answered : (c : goal.After-field_at) → Small (step_said c.field_at.result)
-answered c =
-    let known = c.before.before in
-    let a = known.args in
-    subst Small (sym c.field_at.ensures) (small a.packet.now a.place (λ i. omega (arith, known.shared_slice_known-1.given i)))
+answered : (p : List ℕ) (at : ℕ) (s : Stepped) → ((i : ℕ) → get_or p i 0 < 256) → s ≡ step_of p at → Small s
+answered p at s octets is = subst Small (sym is) (small p at octets)
 
 pub put_field-requires : goal.put_field-requires
 put_field-requires c =
-    let found = c.before.before in
-    subst (λ r. Small (step_said r)) found.found-1.given.1 (answered found.before.before)
+    let a = c.args in
+    subst (λ r. Small (step_said r)) c.in-Field.is (answered a.packet.now a.place _ (λ i. omega (arith, c.type_inv.packet i)) c.field_at.ensures)
 
 pub code-requires : goal.code-requires
 code-requires c =
-    let refused = c.before in
-    subst (λ r. Small (step_said r)) refused.refusal-1.given.1 (answered refused.before.before)
+    let a = c.args in
+    subst (λ r. Small (step_said r)) c.in-Refused.is (answered a.packet.now a.place _ (λ i. omega (arith, c.type_inv.packet i)) c.field_at.ensures)
 
 pub returns-in-Field : goal.returns-in-Field
 unfolding field_says
-returns-in-Field c =
-    let put = c.before.before in
-    let found = put.before.before.before in
-    rw (sym found.field_at.ensures ∙ ap step_said found.found-1.given.1) put.put_field.ensures
+returns-in-Field c = rw (sym c.field_at.ensures ∙ ap step_said c.in-Field.is) c.put_field.ensures
 
 pub returns-in-End : goal.returns-in-End
 unfolding field_says
-returns-in-End c =
-    let put = c.before.before in
-    let told = put.before.before.before in
-    rw (sym told.field_at.ensures ∙ ap step_said told.enum_told-1.given.1) put.put.ensures
+returns-in-End c = rw (sym c.field_at.ensures ∙ ap step_said c.in-End.is) c.put.ensures
 
 pub returns-in-Refused : goal.returns-in-Refused
 unfolding field_says
-returns-in-Refused c =
-    let refused = c.before.before in
-    rw (sym refused.field_at.ensures ∙ ap step_said refused.refusal-1.given.1) (rowed-refuses _ _ _ _ c.code.ensures)
+returns-in-Refused c = rw (sym c.field_at.ensures ∙ ap step_said c.in-Refused.is) (rowed-refuses _ _ _ _ c.code.ensures)

@@ -21,4 +21,4 @@ returns c =
     let room = lent.before.before.before in
     let a = room.args in
     wrote (λ (room : ℕ). octets_out (sending_in (sheet_in a.sheet.now) a.users.now a.stream (answer_in a.answer.now) room)) (sent (sheet_in a.sheet.now) a.users.now a.stream (answer_in a.answer.now)) (sending_in_lem (sheet_in a.sheet.now) a.users.now a.stream (answer_in a.answer.now))
-    a.out-1.now a.written-1.now room.room_of-room.result room.room_of-room.ensures.0 lent.packet_lent.result _ _ _ lent.packet_lent.ensures told.Put-written.ensures
+    a.out.now a.written.now room.room_of-room.result room.room_of-room.ensures.0 lent.packet_lent.result _ _ _ lent.packet_lent.ensures told.Put-written.ensures

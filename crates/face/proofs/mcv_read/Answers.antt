@@ -11,29 +11,21 @@ use Rattle.face.proofs.mcv_read.Goals as goal
 
 pub code-requires : goal.code-requires
 code-requires c =
-    let found = c.before.before.before in
-    let a = found.args in
+    let a = c.args in
     plain-refuses (outcome_says (read_of (sheet_in a.sheet.now) a.packet.now)) _ _ (plain-packet (sheet_in a.sheet.now) a.packet.now)
-    (ap outcome_says (sym found.read_lent.ensures ∙ ap read_said c.refusal-1.given.1))
+    (ap outcome_says (sym c.read_lent.ensures ∙ ap read_said c.in-Refused.is))
 
 pub returns-in-Read : goal.returns-in-Read
 unfolding read_says
 returns-in-Read c =
-    let put = c.before.before in
-    let made = put.before.before.before in
-    let known = made.before.before in
-    let found = known.before.before in
-    let a = found.args in
-    subst (λ (o : Outcome). Rowed (outcome_says o) a.message-1.now put.put.result put.put.new.0)
-    (sym (ap read_said known.read-1.given.1) ∙ found.read_lent.ensures)
-    (rw (said_row, sym made.row_of-row.ensures.0) put.put.ensures)
+    subst (λ (o : Outcome). Rowed (outcome_says o) c.args.message.now c.put.result c.put.new.out)
+    (sym (ap read_said c.in-Read.is) ∙ c.read_lent.ensures)
+    (rw (said_row, sym c.row_of-row.ensures.0) c.put.ensures)
 
 pub returns-in-Refused : goal.returns-in-Refused
 unfolding read_says
 returns-in-Refused c =
-    let known = c.before.before in
-    let found = known.before.before in
-    let a = found.args in
-    subst (λ (o : Outcome). Rowed (outcome_says o) a.message-1.now c.code.result a.message-1.now)
-    (sym (ap read_said known.refusal-1.given.1) ∙ found.read_lent.ensures)
-    (rowed-refuses _ _ a.message-1.now c.code.result c.code.ensures)
+    let message = c.args.message.now in
+    subst (λ (o : Outcome). Rowed (outcome_says o) message c.code.result message)
+    (sym (ap read_said c.in-Refused.is) ∙ c.read_lent.ensures)
+    (rowed-refuses _ _ message c.code.result c.code.ensures)

@@ -3,13 +3,16 @@ use mathlib.Core.Path.{◌≡◌, sym, ap, ◌∙◌}
 use mathlib.Core.Bool.{true, ◌&&◌}
 use mathlib.Core.List.{List}
 use mathlib.Core.Option.{some}
+use Prim.Native.Nat.{ℕ}
 use native.Mathlib.Omega.{arith}
 use lib.Dec.{ltb}
-use borrow.Author.Tests.{ltb-true, not-true, not-false}
+use borrow.Author.Tests.{ltb-true}
 use Rattle.octets.proofs.Choice.{and-true_right}
+use Rattle.sheet.specs.declared.Sheet.{Sheet}
 use Rattle.sheet.specs.Value.{sheet_in}
 use Rattle.streams.specs.declared.Record.{Record}
-use Rattle.reception.specs.Steps.{seen_of, read_of, seen_said}
+use Rattle.reception.specs.Steps.{Said, seen_of, read_of, seen_said}
+use Rattle.rows.specs.Promises.{record_at≡}
 use Rattle.rows.specs.Rows.{is_some, record_row, records_in}
 use Rattle.face.specs.Calls.{seen_says}
 use Rattle.face.proofs.Laws.Told.{plain-refuses}
@@ -19,69 +22,57 @@ use Rattle.face.proofs.mcv_seen.Goals as goal
 pub returns-then-not-are_right : goal.returns-then-not-are_right
 unfolding seen_says
 returns-then-not-are_right c =
-    let test = c.before.before in
-    let a = test.args in
+    let a = c.args in
     eight-misfit record_row a.sheet.now a.records.now (read-judged _ a.stream)
-    (sym test.are_right.ensures ∙ c.if-not-are_right.true)
-    a.seen-1.now
+    (sym c.are_right.ensures ∙ c.if-not-are_right.true)
+    a.seen.now
     _
     c.misfit.ensures
-
--- past the test both are right
-right : (c : goal.Else-not-are_right)
-    → let a = c.args in
-    (is_some (records_in 8 a.records.now) && ltb a.stream 256) ≡ true
-right c = sym c.are_right.ensures ∙ c.if-not-are_right.false
 
 pub overflow_cast-stream : goal.overflow_cast-stream
 overflow_cast-stream c =
     let a = c.args in
-    omega (arith, ltb-true a.stream 256 (and-true_right (is_some (records_in 8 a.records.now)) _ (right c)))
+    let right = sym c.are_right.ensures ∙ c.if-not-are_right.false in
+    omega (arith, ltb-true a.stream 256 (and-true_right (is_some (records_in 8 a.records.now)) _ right))
 
 -- the eight records, of which what is said is what a read says
-eight : (c : goal.After-seen_lent)
-    → let a = c.args in
-    (rs : List Record)
-    × (records_in 8 a.records.now ≡ some rs)
-    × (seen_said c.seen_lent.result ≡ (read_of (sheet_in a.sheet.now) a.stream rs).said)
+eight : (s : Sheet) (records : List ℕ) (stream : ℕ) (x : Record) (said : Said Record)
+    → (is_some (records_in 8 records) && ltb stream 256) ≡ true → record_at≡ records stream x → said ≡ seen_of s stream x
+    → (rs : List Record) × (records_in 8 records ≡ some rs) × (said ≡ (read_of s stream rs).said)
 unfolding read_of
-eight c =
-    let a = c.args in
-    let own = eight-own a.records.now a.stream _ (right c.before.before) c.record_at.ensures in
-    (own.0, own.1, c.seen_lent.ensures ∙ ap (λ (x : Record). seen_of (sheet_in a.sheet.now) a.stream x) own.2)
+eight s records stream x said right at e =
+    let own = eight-own records stream x right at in
+    (own.0, own.1, e ∙ ap (λ (x : Record). seen_of s stream x) own.2)
 
 pub code-requires : goal.code-requires
 code-requires c =
-    let read = c.before.before.before in
-    let a = read.args in
-    plain-refuses _ _ _ (plain-seen (sheet_in a.sheet.now) a.stream read.record_at.result)
-    (sym read.seen_lent.ensures ∙ ap seen_said c.refusal-1.given.1)
+    plain-refuses _ _ _ (plain-seen (sheet_in c.args.sheet.now) c.args.stream c.record_at.result)
+    (sym c.seen_lent.ensures ∙ ap seen_said c.in-Refused.is)
 
 pub returns-in-Read : goal.returns-in-Read
 unfolding seen_says
 returns-in-Read c =
-    let put = c.before.before in
-    let known = put.before.before.before in
-    let read = known.before.before in
-    let a = read.args in
-    eight-gives record_row a.sheet.now a.records.now (read-judged _ a.stream) _ (eight read).1
+    let a = c.args in
+    let right = sym c.are_right.ensures ∙ c.if-not-are_right.false in
+    let are = eight (sheet_in a.sheet.now) a.records.now a.stream _ _ right c.record_at.ensures c.seen_lent.ensures in
+    eight-gives record_row a.sheet.now a.records.now (read-judged _ a.stream) _ are.1
     _
-    (sym (ap seen_said known.own-1.given.1) ∙ (eight read).2)
-    a.seen-1.now
+    (sym (ap seen_said c.in-Read.is) ∙ are.2)
+    a.seen.now
     _
     _
-    put.put_record.ensures
+    c.put_record.ensures
 
 pub returns-in-Refused : goal.returns-in-Refused
 unfolding seen_says
 returns-in-Refused c =
-    let known = c.before.before in
-    let read = known.before.before in
-    let a = read.args in
-    eight-refuses record_row a.sheet.now a.records.now (read-judged _ a.stream) _ (eight read).1
+    let a = c.args in
+    let right = sym c.are_right.ensures ∙ c.if-not-are_right.false in
+    let are = eight (sheet_in a.sheet.now) a.records.now a.stream _ _ right c.record_at.ensures c.seen_lent.ensures in
+    eight-refuses record_row a.sheet.now a.records.now (read-judged _ a.stream) _ are.1
     _
     _
-    (sym (ap seen_said known.refusal-1.given.1) ∙ (eight read).2)
-    a.seen-1.now
+    (sym (ap seen_said c.in-Refused.is) ∙ are.2)
+    a.seen.now
     _
     c.code.ensures

@@ -17,7 +17,7 @@ returns-then-refusal-ne0 c =
     let then1 = c.before in
     let read = then1.before.before.before in
     let a = read.args in
-    sheet-refused a.text.now a.sheet-1.now a.users.now a.used.now read.read_with-reading.result read.read_with-reading.ensures.0 _ then1.if-refusal-ne0.true
+    sheet-refused a.text.now a.sheet.now a.users.now a.used.now read.read_with-reading.result read.read_with-reading.ensures.0 _ then1.if-refusal-ne0.true
     c.code.ensures
 
 pub returns-then-sheet-lt-LINES : goal.returns-then-sheet-lt-LINES
@@ -25,7 +25,7 @@ returns-then-sheet-lt-LINES c =
     let else1 = c.before in
     let read = else1.before.before.before in
     let a = read.args in
-    sheet-short a.text.now a.sheet-1.now a.users.now a.used.now read.read_with-reading.result read.read_with-reading.ensures.0 else1.if-refusal-ne0.false
+    sheet-short a.text.now a.sheet.now a.users.now a.used.now read.read_with-reading.result read.read_with-reading.ensures.0 else1.if-refusal-ne0.false
     (inl c.if-sheet-lt-LINES.true)
 
 pub returns-then-used-eq0 : goal.returns-then-used-eq0
@@ -33,7 +33,7 @@ returns-then-used-eq0 c =
     let else1 = c.before.before in
     let read = else1.before.before.before in
     let a = read.args in
-    sheet-short a.text.now a.sheet-1.now a.users.now a.used.now read.read_with-reading.result read.read_with-reading.ensures.0 else1.if-refusal-ne0.false
+    sheet-short a.text.now a.sheet.now a.users.now a.used.now read.read_with-reading.result read.read_with-reading.ensures.0 else1.if-refusal-ne0.false
     (inr c.if-used-eq0.true)
 
 pub overflow_cast-used : goal.overflow_cast-used
@@ -51,7 +51,7 @@ returns c =
     let read = else1.before.before.before in
     let a = read.args in
     let room = rw numbers.numbers_of-row.ensures at put.put.ensures in
-    sheet-read a.text.now a.sheet-1.now a.users.now a.used.now read.read_with-reading.result read.read_with-reading.ensures.0 else1.if-refusal-ne0.false
+    sheet-read a.text.now a.sheet.now a.users.now a.used.now read.read_with-reading.result read.read_with-reading.ensures.0 else1.if-refusal-ne0.false
     _ _ _ _ else2.if-sheet-lt-LINES.false (omega (arith, else3.if-used-eq0.false))
     (rowed-fits _ _ _ _ (omega (arith, (small read).row-1, else2.if-sheet-lt-LINES.false)) room).1 read.read_with-reading.ensures.1
     (over-one _ _ (omega (arith, else3.if-used-eq0.false)))

@@ -21,4 +21,4 @@ returns c =
     let room = lent.before.before.before in
     let a = room.args in
     wrote (λ (room : ℕ). write_of (sheet_in a.sheet.now) (message_in a.message.now) a.names.now room) (written (sheet_in a.sheet.now) (message_in a.message.now) a.names.now) (written_in (sheet_in a.sheet.now) (message_in a.message.now) a.names.now)
-    a.out-1.now a.written-1.now room.room_of-room.result room.room_of-room.ensures.0 lent.write_lent.result _ _ _ lent.write_lent.ensures told.Put-written.ensures
+    a.out.now a.written.now room.room_of-room.result room.room_of-room.ensures.0 lent.write_lent.result _ _ _ lent.write_lent.ensures told.Put-written.ensures

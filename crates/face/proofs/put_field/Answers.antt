@@ -9,10 +9,7 @@ use Rattle.face.proofs.put_field.Goals as goal
 pub returns-then-field-gt4294967295 : goal.returns-then-field-gt4294967295
 returns-then-field-gt4294967295 c =
     let a = c.args in
-    rw (le-ltb a.field.next (2 ^ 32) (omega arith)) (rowed-refuses 4 0 a.out-1.now 4 refl)
+    rw (le-ltb a.field.next (2 ^ 32) (omega arith)) (rowed-refuses 4 0 a.out.now 4 refl)
 
 pub returns : goal.returns
-returns c =
-    let put = c.before.before in
-    let else1 = put.before.before.before.before.before.before.before in
-    rw (lt-ltb else1.args.field.next (2 ^ 32) (omega (arith, else1.if-field-gt4294967295.false))) put.put.ensures
+returns c = rw (lt-ltb c.args.field.next (2 ^ 32) (omega arith)) c.put.ensures

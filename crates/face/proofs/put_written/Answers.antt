@@ -4,9 +4,7 @@ use Rattle.face.proofs.Laws.Told.{rowed-refuses}
 use Rattle.face.proofs.put_written.Goals as goal
 
 pub returns-in-Written : goal.returns-in-Written
-returns-in-Written c =
-    let put = c.before.before in
-    rw put.writing-1.given.1 put.put_number.ensures
+returns-in-Written c = rw c.in-Written.is c.put_number.ensures
 
 pub returns-in-Refused : goal.returns-in-Refused
-returns-in-Refused c = rw c.writing-in-Refused-1.given.1 (rowed-refuses c.writing-in-Refused-1.given.0.0 0 _ _ (omega arith))
+returns-in-Refused c = rw c.in-Refused.is (rowed-refuses c.in-Refused.number 0 _ _ (omega arith))

@@ -1,4 +1,4 @@
--- `hex::is_digit` meets its contract: its arms are the three ranges of digits, and what lies outside them. Assumes nothing.
+-- `hex_line::is_digit` meets its contract: its arms are the three ranges of digits, and what lies outside them. Assumes nothing.
 use mathlib.Core.Path.{sym}
 use native.Mathlib.Omega.{arith}
 use Rattle.octets.proofs.Hex.{hex_digit-digit, hex_digit-upper, hex_digit-lower, hex_digit-none}

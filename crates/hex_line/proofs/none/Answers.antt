@@ -1,4 +1,4 @@
--- `hex::none` meets its contract: no octets, filled up with zeros. Assumes nothing.
+-- `hex_line::none` meets its contract: no octets, filled up with zeros. Assumes nothing.
 use mathlib.Core.Path.{refl}
 use Rattle.octets.specs.Buffer.{padded}
 use Rattle.hex_line.specs.Line.{packet_as}

@@ -1,9 +1,8 @@
--- `hex::packet_in` meets its contract. The invariant: `right` tells whether the first 2 i octets of the line are digits, and the
+-- `hex_line::packet_in` meets its contract. The invariant: `right` tells whether the first 2 i octets of the line are digits, and the
 -- octets are what they make if so. Assumes nothing.
 use mathlib.Core.Path.{sym, ap, ◌∙◌}
 use Prim.Native.Nat.{◌-◌}
 use native.Mathlib.Omega.{arith}
-use borrow.Author.Tests.{not-true, not-false}
 use Rattle.hex_line.specs.Line.{packet_as}
 use Rattle.hex_line.proofs.Laws.Pairs.{pairs_start, pairs_more, pairs-none, pairs_end, packet_in-none}
 use Rattle.hex_line.proofs.packet_in.Goals as goal
@@ -37,12 +36,10 @@ pub returns-then-not-right : goal.returns-then-not-right
 returns-then-not-right c =
     let line = c.args.line.now in
     let l = c.loop-i in
-    let wrong = not-true l.right c.if-not-right.true in
-    c.none-then-not-right.ensures ∙ ap packet_as (sym (pairs-none line l.right l.octets l.i l.invariant.1 (omega arith) (omega arith) wrong))
+    c.none-then-not-right.ensures ∙ ap packet_as (sym (pairs-none line l.right l.octets l.i l.invariant.1 (omega arith) (omega arith) c.if-not-right.true))
 
 pub returns : goal.returns
 returns c =
     let line = c.args.line.now in
     let l = c.loop-i in
-    let right = not-false l.right c.if-not-right.false in
-    pairs_end line l.right l.octets l.i l.invariant.1 (omega arith) (omega arith) right (omega arith)
+    pairs_end line l.right l.octets l.i l.invariant.1 (omega arith) (omega arith) c.if-not-right.false (omega arith)

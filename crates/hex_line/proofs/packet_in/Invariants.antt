@@ -1,4 +1,5 @@
--- `hex::packet_in` meets its contract. The invariant: `right` tells whether the first 2 i octets of the line are digits, and the
+-- `hex_line::packet_in` meets its contract. The invariant: `right` tells whether the first 2 i octets of the line are digits, and the
+-- octets are what they make if so.
 use Prim.Native.Nat.{◌-◌, ◌≤◌}
 use Rattle.hex_line.proofs.Laws.Pairs.{Pairs}
 use Rattle.hex_line.proofs.packet_in.Given as goal

@@ -1,6 +1,6 @@
 -- Laws of judging fields against slots, ID by ID: no field is at fault exactly if the fields with each ID in use fit the slots with that
 -- ID one by one, and each slot is filled by the first that those before it leave. Assumes nothing.
-use mathlib.Core.Path.{◌≡◌, refl}
+use mathlib.Core.Path.{◌≡◌, refl, subst}
 use mathlib.Core.Logic.{◌↔◌, ⊎_elim}
 use mathlib.Core.Bool.{Bool, true, false, not, ◌&&◌, ◌||◌}
 use mathlib.Core.List.{List, [], ◌∷◌, ◌++◌, map}
@@ -98,16 +98,21 @@ module _ (p : List ℕ) (slots : List Slot) where
     abbrev others : ℕ → Bool
     others id = fitting p (openSlots id (before ++ (f ∷ []))) (fields_with id fs)
 
-    -- those with the ID fit exactly if both do
-    fitting-step : (id : ℕ) → fitting p (openSlots id before) (fields_with id (f ∷ fs)) ≡ (own id && others id)
+    -- those with its own ID fit exactly if both do ..
+    fitting-own : fitting p (openSlots f.id before) (fields_with f.id (f ∷ fs)) ≡ (own f.id && others f.id)
     unfolding fields_with form_for
+    fitting-own =
+        rw (drop-keep-snoc (λ (g : Field). eqb g.id f.id) before f (slots_with f.id slots), T_true (eqb f.id f.id) (eqb_refl f.id))
+        (fitting-drop p (length (fields_with f.id before)) (slots_with f.id slots) f (fields_with f.id fs))
+
+    -- .. and so do those with any ID
+    fitting-step : (id : ℕ) → fitting p (openSlots id before) (fields_with id (f ∷ fs)) ≡ (own id && others id)
+    unfolding fields_with
     fitting-step id =
-        rw (drop-keep-snoc (λ (g : Field). eqb g.id id) before f (slots_with id slots))
-        (⊎_elim
-        (λ t. rw (T_true (eqb f.id id) t)
-        (rw (← eqb→eq f.id id t) (fitting-drop p (length (fields_with f.id before)) (slots_with f.id slots) f (fields_with f.id fs))))
-        (λ e. rw e)
-        (decide (eqb f.id id)))
+        ⊎_elim
+        (λ t. subst (λ (j : ℕ). fitting p (openSlots j before) (fields_with j (f ∷ fs)) ≡ (own j && others j)) (eqb→eq f.id id t) fitting-own)
+        (λ e. rw (drop-keep-snoc (λ (g : Field). eqb g.id id) before f (slots_with id slots)) (rw e))
+        (decide (eqb f.id id))
 
     -- the first is not at fault exactly if it has its form where its ID is in use
     fault-fits : (at_fault p slots before f ≡ false) ↔ (T (in_use f.id slots) → T (fits (form_for slots before f) p f))

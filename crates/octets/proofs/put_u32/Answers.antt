@@ -17,10 +17,7 @@ returns-then-s-at c = sym (put_at-no_room _ _ (big_of 4 c.args.n) (rw length-big
 
 pub returns : goal.returns
 returns c =
-    let start = c.before.before.before.before.before.before.before.before.before.before.before in
-    let s : List ℕ = start.args.s-1.now in
-    let at : ℕ = start.args.at in
-    let n : ℕ = start.args.n in
-    let high = c.put_u16.ensures in
-    let low = c.put_u16-2.ensures in
-    rw (low, high, big_of-mod 2 n) (put_at-big_of-add 2 2 s at n (omega arith))
+    let s : List ℕ = c.args.s.now in
+    let at : ℕ = c.args.at in
+    let n : ℕ = c.args.n in
+    rw (c.put_u16-2.ensures, c.put_u16.ensures, big_of-mod 2 n) (put_at-big_of-add 2 2 s at n (omega arith))

@@ -4,6 +4,3 @@ use Rattle.plan.proofs.stands.Goals as goal
 
 pub returns-then-message-ne-NUMBERS : goal.returns-then-message-ne-NUMBERS
 returns-then-message-ne-NUMBERS c = rw (other_length _ c.if-message-ne-NUMBERS.true)
-
-pub returns : goal.returns
-returns c = rw (c.is_row.ensures, c.fits2.ensures)

@@ -7,19 +7,13 @@ use Rattle.reception.specs.Steps.{reply_of, stored, store_of, taking_said, attem
 use Rattle.reception.proofs.Laws.Steps.{reply-below}
 use Rattle.reception.proofs.store_lent.Goals as goal
 
--- what is said of the own record of the eight
-said : (c : goal.After-settle_lent)
-    → let a = c.args in
-    reply_of (sheet_in a.numbers.now) (attempt_said a.attempt) (own a.records a.attempt.stream) ≡ taking_said c.settle_lent.result
-said c = rw (sym c.own_of-own.ensures) (sym c.settle_lent.ensures)
-
 pub bounds-after-stream : goal.bounds-after-stream
-bounds-after-stream c = reply-below _ _ _ _ (said c.before.before.before ∙ ap taking_said c.answer-1.given.1)
+bounds-after-stream c = reply-below _ _ _ _ (sym c.settle_lent.ensures ∙ ap taking_said c.in-Took.is)
 
 pub returns-in-Took : goal.returns-in-Took
 unfolding store_of stored
-returns-in-Took c = rw (said c.before.before.before ∙ ap taking_said c.answer-1.given.1)
+returns-in-Took c = rw (← c.own_of-own.ensures, sym c.settle_lent.ensures ∙ ap taking_said c.in-Took.is)
 
 pub returns-in-Refused : goal.returns-in-Refused
 unfolding store_of stored
-returns-in-Refused c = rw (said c.before.before.before ∙ ap taking_said c.refusal-1.given.1)
+returns-in-Refused c = rw (← c.own_of-own.ensures, sym c.settle_lent.ensures ∙ ap taking_said c.in-Refused.is)

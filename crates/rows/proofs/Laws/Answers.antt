@@ -15,7 +15,6 @@ use Rattle.octets.proofs.Choice.{NoneFrom, T-or-left, same_refl, pick-cases}
 use Rattle.streams.specs.declared.Answer.{Answer}
 use Rattle.streams.specs.declared.Answer.TheVariants.{GrantedFirst, Granted, GrantedAgain, Rejected, Ended, EndedLast, Opened, EndRequested, Freed, FreedWithAck, ReleasedIdle, ReleasedWatched, ReleasedEnding, Discarded}
 use Rattle.streams.specs.Answer.{Sent, reply, done_by, message_of, timers_of}
-use Rattle.streams.specs.Answer.{message_of}
 use Rattle.rows.specs.Rows.{timers_sum, reply_row, answer_row, answers_for, answer_in}
 use Rattle.rows.specs.Promises.{row_of≡}
 use Rattle.rows.specs.Claims.{Narrow}

@@ -1,6 +1,5 @@
 -- `seats::are_valid_with` meets its contract: the struct is judged by itself, and then row by row. Assumes nothing.
 use mathlib.Core.Path.{◌≡◌, sym, ap, ◌∙◌, subst}
-use borrow.Author.Tests.{not-true, not-false}
 use native.Mathlib.Omega.{arith}
 use lib.ListN.{length, length-drop}
 use lib.Dec.{T}
@@ -12,30 +11,26 @@ use Rattle.sheet.specs.Value.{sheet_by, sheet_from, sheet_in, valid_with, valid_
 use Rattle.sheet.proofs.Laws.Values.{rows-judged, not-alone, sheet_in-counted, valid-counted}
 use Rattle.seats.proofs.are_valid_with.Goals as goal
 
--- the numbers are a sheet's ..
-alone : (c : goal.Else-not-are_valid) → let ns = c.args.numbers.now in T (valid_alone (sheet_in ns))
-alone c = true-T _ (sym c.are_valid.ensures ∙ c.if-not-are_valid.false)
-
--- .. so there are nineteen
-long : (c : goal.Else-not-are_valid) → length c.args.numbers.now ≡ 19
-long c = valid-counted _ (alone c)
-
 pub returns-then-not-are_valid : goal.returns-then-not-are_valid
 returns-then-not-are_valid c =
     let a = c.args in
     sym (not-alone (sheet_in a.numbers.now) a.users.now (sym c.are_valid.ensures ∙ c.if-not-are_valid.true))
 
+-- the numbers are a sheet's, so there are nineteen
 pub bounds-numbers-10 : goal.bounds-numbers-10
-bounds-numbers-10 c = omega (arith, long c.before)
+bounds-numbers-10 c =
+    let alone = true-T _ (sym c.are_valid.ensures ∙ c.if-not-are_valid.false) in
+    omega (arith, valid-counted _ alone)
 
 pub returns : goal.returns
 unfolding sheet_from sheet_by number_lines table most_seats
 returns c =
-    let else1 = c.before.before in
-    let a = else1.args in
+    let a = c.args in
     let ns = a.numbers.now in
-    let own : sheet_in ns ≡ sheet_from ns = sheet_in-counted ns (long else1) in
-    let eight : length (sheet_from ns).ssrcs ≡ 8 = length-padded 8 0 _ (rw length-drop (omega (arith, long else1))) in
-    let t : T (valid_alone (sheet_from ns)) = subst (λ (s : Sheet). T (valid_alone s)) own (alone else1) in
+    let alone : T (valid_alone (sheet_in ns)) = true-T _ (sym c.are_valid.ensures ∙ c.if-not-are_valid.false) in
+    let long : length ns ≡ 19 = valid-counted _ alone in
+    let own : sheet_in ns ≡ sheet_from ns = sheet_in-counted ns long in
+    let eight : length (sheet_from ns).ssrcs ≡ 8 = length-padded 8 0 _ (rw length-drop (omega (arith, long))) in
+    let t : T (valid_alone (sheet_from ns)) = subst (λ (s : Sheet). T (valid_alone s)) own alone in
     rows-judged (sheet_from ns) a.users.now eight c.are_good_rows.ensures.0 t _ c.are_good_rows.ensures.1
     ∙ ap (λ (s : Sheet). valid_with s a.users.now) (sym own)

@@ -1,17 +1,11 @@
 -- `seats::valid_with` meets its contract: the struct is judged by itself, and then row by row. Assumes nothing.
 use mathlib.Core.Path.{◌≡◌, sym, ◌∙◌}
 use borrow.Author.Rules.{rules}
-use borrow.Author.Tests.{not-true, not-false}
 use lib.ListN.{length}
 use Rattle.octets.proofs.Choice.{true-T}
 use Rattle.sheet.specs.Table.{most_seats}
 use Rattle.sheet.proofs.Laws.Values.{rows-judged, not-alone}
 use Rattle.seats.proofs.valid_with.Goals as goal
-
--- it has eight SSRCs
-eight : (c : goal.Else-not-valid) → length c.args.sheet.ssrcs ≡ most_seats
-unfolding most_seats
-eight c = search rules
 
 pub returns-then-not-valid : goal.returns-then-not-valid
 returns-then-not-valid c =
@@ -21,7 +15,8 @@ returns-then-not-valid c =
 pub returns : goal.returns
 unfolding most_seats
 returns c =
-    let else1 = c.before in
-    let a = else1.args in
-    let alone = true-T _ (sym else1.valid.ensures ∙ else1.if-not-valid.false) in
-    rows-judged a.sheet a.users.now (eight else1) c.are_good_rows.ensures.0 alone _ c.are_good_rows.ensures.1
+    let a = c.args in
+    -- it has eight SSRCs
+    let eight : length a.sheet.ssrcs ≡ most_seats = search rules in
+    let alone = true-T _ (sym c.valid.ensures ∙ c.if-not-valid.false) in
+    rows-judged a.sheet a.users.now eight c.are_good_rows.ensures.0 alone _ c.are_good_rows.ensures.1

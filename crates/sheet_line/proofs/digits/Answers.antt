@@ -1,23 +1,15 @@
 -- `sheet_line::digits` meets its contract: the number is the digits' so far, as far as CAP; with those still ahead it makes the whole.
 -- Assumes nothing.
 use mathlib.Core.Path.{refl, sym, ap, ◌∙◌}
-use mathlib.Core.Logic.{⊎_elim}
 use Prim.Native.Nat.{ℕ, ◌+◌, ◌-◌, ◌*◌}
 use native.Mathlib.Omega.{arith}
 use lib.ListN.{length, get_or}
 use lib.Dec.{T}
-use borrow.Author.Tests.{not-true, not-false}
 use Rattle.octets.specs.Text.{digit, value_from}
 use Rattle.octets.proofs.Choice.{T_true, true-T, front-drop-true, front-drop-false, front-drop-end}
 use Rattle.octets.proofs.Text.{digit_low, digit-high}
 use Rattle.sheet_line.proofs.digits.Goals as goal
-
--- the octet at the loop's place, where it was found to be a digit
-abbrev octet : goal.Else-not-is_digit → ℕ
-octet c = get_or c.args.text.now c.loop-i.i 0
-
-octet-digit : (c : goal.Else-not-is_digit) → T (digit (octet c))
-octet-digit c = true-T (digit (octet c)) (c.if-not-is_digit.false)
+use Rattle.sheet_line.proofs.digits.Goals.{then-next-gt-CAP, else-next-gt-CAP}
 
 pub loop-i-init : goal.loop-i-init
 loop-i-init c = (refl, 0, omega arith, refl)
@@ -27,28 +19,40 @@ returns-then-not-is_digit c =
     let text = c.args.text.now in
     let i = c.loop-i.i in
     let inv = c.loop-i.invariant in
-    let none = front-drop-false digit text i (omega arith) (c.if-not-is_digit.true) in
+    let none = front-drop-false digit text i (omega arith) c.if-not-is_digit.true in
     (omega (arith, ap length none), omega (arith, sym (ap (value_from inv.1) none) ∙ inv.3))
 
 pub overflow_sub-next : goal.overflow_sub-next
-overflow_sub-next c = digit_low (octet c) (octet-digit c)
+overflow_sub-next c =
+    let octet = get_or c.args.text.now c.loop-i.i 0 in
+    digit_low octet (true-T (digit octet) c.if-not-is_digit.false)
 
 pub overflow_cast-next : goal.overflow_cast-next
-overflow_cast-next c = omega (arith, digit-high (octet c) (octet-digit c))
+overflow_cast-next c =
+    let octet = get_or c.args.text.now c.loop-i.i 0 in
+    omega (arith, digit-high octet (true-T (digit octet) c.if-not-is_digit.false))
 
 pub overflow_add-next : goal.overflow_add-next
-overflow_add-next c = omega (arith, digit-high (octet c) (octet-digit c))
+overflow_add-next c =
+    let octet = get_or c.args.text.now c.loop-i.i 0 in
+    omega (arith, digit-high octet (true-T (digit octet) c.if-not-is_digit.false))
 
 pub loop-i-preserved : goal.loop-i-preserved
 loop-i-preserved c =
     let text = c.args.text.now in
     let i = c.loop-i.i in
     let inv = c.loop-i.invariant in
-    let found = octet-digit c.before in
-    let v = inv.1 * 10 + (octet c.before - 48) in
-    let one = front-drop-true digit text i (omega arith) (T_true (digit (octet c.before)) found) in
-    let high = digit-high (octet c.before) found in
-    (omega (arith, ap length one), v, ⊎_elim (λ w. omega arith) (λ w. omega arith) c.if-next-gt-CAP.branch, sym (ap (value_from inv.1) one) ∙ inv.3)
+    let octet = get_or text i 0 in
+    let found = true-T (digit octet) c.if-not-is_digit.false in
+    let v = inv.1 * 10 + (octet - 48) in
+    let one = front-drop-true digit text i (omega arith) (T_true (digit octet) found) in
+    let high = digit-high octet found in
+    (
+      omega (arith, ap length one),
+      v,
+      elim c.if-next-gt-CAP.branch [ then-next-gt-CAP w ↦ omega arith | else-next-gt-CAP w ↦ omega arith ],
+      sym (ap (value_from inv.1) one) ∙ inv.3,
+    )
 
 pub returns : goal.returns
 returns c =

@@ -1,7 +1,5 @@
 -- `fields::header::failed_check` meets its contract: the two checks in their order. Assumes nothing.
-use mathlib.Core.Path.{◌≡◌, sym, ◌∙◌}
-use mathlib.Core.Bool.{true}
-use borrow.Author.Tests.{not-true, not-false}
+use mathlib.Core.Path.{sym, ◌∙◌}
 use Rattle.octets.proofs.Choice.{true-T}
 use Rattle.fields.specs.Header.{size_right, failed_check}
 use Rattle.fields.proofs.Laws.Sized.{sized}
@@ -11,19 +9,17 @@ pub returns-then-not-is_size_right : goal.returns-then-not-is_size_right
 unfolding failed_check
 returns-then-not-is_size_right c = rw (sym c.is_size_right.ensures ∙ c.if-not-is_size_right.true)
 
--- past check 1
-past : (c : goal.Else-not-is_size_right) → size_right c.args.packet.now ≡ true
-past c = sym c.is_size_right.ensures ∙ c.if-not-is_size_right.false
-
 pub is_head_right-requires : goal.is_head_right-requires
 is_head_right-requires c =
     let p = c.args.packet.now in
-    (sized p (true-T (size_right p) (past c))).least
+    (sized p (true-T (size_right p) (sym c.is_size_right.ensures ∙ c.if-not-is_size_right.false))).least
 
 pub returns-then-not-is_head_right : goal.returns-then-not-is_head_right
 unfolding failed_check
-returns-then-not-is_head_right c = rw (past c.before.before, sym c.is_head_right.ensures ∙ c.if-not-is_head_right.true)
+returns-then-not-is_head_right c =
+    rw (sym c.is_size_right.ensures ∙ c.if-not-is_size_right.false, sym c.is_head_right.ensures ∙ c.if-not-is_head_right.true)
 
 pub returns : goal.returns
 unfolding failed_check
-returns c = rw (past c.before.before, sym c.is_head_right.ensures ∙ c.if-not-is_head_right.false)
+returns c =
+    rw (sym c.is_size_right.ensures ∙ c.if-not-is_size_right.false, sym c.is_head_right.ensures ∙ c.if-not-is_head_right.false)

@@ -1,4 +1,5 @@
--- `fields::walk::walk` meets its contract: the walk from where it has come to stops where the walk from the start does, and at a
+-- What the loops of `fields::walk::walk` keep: the walk from where it has come to stops where the walk from the start does, and in the
+-- inner loop the octets still ahead decide on the padding. Assumes nothing.
 use mathlib.Core.Path.{◌≡◌}
 use Prim.Native.Nat.{◌+◌, ◌-◌}
 use lib.ListN.{length}

@@ -3,7 +3,7 @@ use Rattle.incoming.proofs.Laws.Found.{sender-found, sender-unknown}
 use Rattle.incoming.proofs.event.end_response.Goals as goal
 
 pub returns-in-Seat : goal.returns-in-Seat
-returns-in-Seat c = rw (sender-found _ _ _ c.by_ssrc.ensures _ _ c.stream-1.given.1)
+returns-in-Seat c = rw (sender-found _ _ _ c.by_ssrc.ensures _ _ c.in-Seat.is)
 
 pub returns-in-Nobody : goal.returns-in-Nobody
-returns-in-Nobody c = rw (sender-unknown _ _ _ c.by_ssrc.ensures _ c.enum_told-1.given.1) c.refused.ensures
+returns-in-Nobody c = rw (sender-unknown _ _ _ c.by_ssrc.ensures _ c.in-Nobody.is) c.refused.ensures

@@ -8,16 +8,13 @@ use Rattle.incoming.proofs.event.request.Goals as goal
 
 pub request_by-requires : goal.request_by-requires
 request_by-requires c =
-    let found = c.before.before.before in
-    let start = found.before.before in
-    let eight : length start.args.senders.ssrcs ≡ 8 = search rules in
-    let below = sender-below start.args.senders start.args.ssrc _ found.by_ssrc.ensures _ c.seat-1.given.1 in
-    (omega arith, start.requires.0, start.requires.1)
+    let a = c.args in
+    let eight : length a.senders.ssrcs ≡ 8 = search rules in
+    let below = sender-below a.senders a.ssrc _ c.by_ssrc.ensures _ c.in-Seat.is in
+    (omega arith, c.requires.0, c.requires.1)
 
 pub returns-in-Seat : goal.returns-in-Seat
-returns-in-Seat c =
-    let seat = c.before.before in
-    rw (sender-found _ _ _ seat.by_ssrc.ensures _ _ seat.seat-1.given.1) c.request_by.ensures
+returns-in-Seat c = rw (sender-found _ _ _ c.by_ssrc.ensures _ _ c.in-Seat.is) c.request_by.ensures
 
 pub returns-in-Nobody : goal.returns-in-Nobody
-returns-in-Nobody c = rw (sender-unknown _ _ _ c.by_ssrc.ensures _ c.enum_told-1.given.1) c.refused.ensures
+returns-in-Nobody c = rw (sender-unknown _ _ _ c.by_ssrc.ensures _ c.in-Nobody.is) c.refused.ensures

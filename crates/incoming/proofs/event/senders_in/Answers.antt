@@ -32,6 +32,4 @@ ssrcs-are n long =
 
 pub returns : goal.returns
 unfolding sheet_from sheet_by
-returns c =
-    let start = c.before.before.before.before.before.before.before.before.before in
-    rw (ssrcs-are start.args.n.now start.requires)
+returns c = rw (ssrcs-are c.args.n.now c.requires)

@@ -2,41 +2,27 @@
 -- from the place on. Assumes nothing.
 use mathlib.Core.Path.{◌≡◌, refl, sym, ◌∙◌}
 use mathlib.Core.Bool.{◌&&◌}
-use Prim.Native.Nat.{◌+◌, ◌-◌, ◌≤◌}
+use mathlib.Core.List.{List}
+use Prim.Native.Nat.{ℕ, ◌+◌, ◌<◌}
 use native.Mathlib.Nat.{add_assoc}
 use native.Mathlib.Omega.{arith}
 use lib.ListN.{length, get_or}
-use lib.Dec.{T, eqb}
+use lib.Dec.{eqb}
 use borrow.Author.Tests.{eq-eqb, ne_eqb}
 use Rattle.octets.specs.Big.{big_at}
 use Rattle.octets.proofs.Big.{big_at-two}
-use Rattle.fields.specs.Walk.{next_at, field_right, fields_of}
+use Rattle.fields.specs.Walk.{fields_of, fields_from, stop_from}
 use Rattle.fields.proofs.Laws.Walk.{next-size, whole-next, stop_from-right, stop_from-whole}
 use Rattle.kinds.specs.Judge.{granted}
 use Rattle.kinds.proofs.Laws.Judged.{granted-end, granted-first, granted-next}
 use Rattle.kinds.proofs.judge.is_granted.Goals as goal
 
--- where the function began
-abbrev start : goal.In-loop-at → goal.Start
-start c = c.before.before.before.before
-
--- the field at the place, and the next one's place
-right-told : (c : goal.In-loop-at) → T (field_right (start c).args.packet.now c.loop-at.at)
-right-told c = stop_from-whole (start c).args.packet.now c.loop-at.at c.loop-at.invariant.0 c.loop-at-test.true
-
-next-told : (c : goal.In-loop-at)
-    → (c.loop-at.at + 4 ≤ next_at (start c).args.packet.now c.loop-at.at) × (next_at (start c).args.packet.now c.loop-at.at ≤ length (start c).args.packet.now)
-next-told c = whole-next (start c).args.packet.now c.loop-at.at c.loop-at.invariant.0 c.loop-at-test.true
-
 -- whether the first Result is 1, where it is the field at the place
-first-told : (c : goal.Then-packet-at)
-    → (eqb (start c.before.before).args.kind 2 && granted (start c.before.before).args.packet.now (start c.before.before).args.resultid (fields_of (start c.before.before).args.packet.now))
-    ≡ (eqb (get_or (start c.before.before).args.packet.now (c.loop-at.at + 1) 0) 2 && eqb (big_at 2 (start c.before.before).args.packet.now (c.loop-at.at + 2)) 1)
-first-told c =
-    let in-loop = c.before.before in
-    let a = (start in-loop).args in
-    rw (eq-eqb a.kind 2 in-loop.if-kind-ne2.false, ← in-loop.loop-at.invariant.1)
-    (granted-first a.packet.now in-loop.loop-at.at a.resultid (right-told in-loop) c.if-packet-at.true)
+first-told : (p : List ℕ) (kind at resultid : ℕ) → kind ≡ 2
+    → (stop_from p at ≡ length p) × (granted p resultid (fields_from p at) ≡ granted p resultid (fields_of p)) → at < length p → get_or p at 0 ≡ resultid
+    → (eqb kind 2 && granted p resultid (fields_of p)) ≡ (eqb (get_or p (at + 1) 0) 2 && eqb (big_at 2 p (at + 2)) 1)
+first-told p kind at resultid k i h e =
+    rw (eq-eqb kind 2 k, ← i.1) (granted-first p at resultid (stop_from-whole p at i.0 h) e)
 
 pub returns-then-kind-ne2 : goal.returns-then-kind-ne2
 returns-then-kind-ne2 c = rw (ne_eqb c.args.kind 2 c.if-kind-ne2.true)
@@ -45,63 +31,43 @@ pub loop-at-init : goal.loop-at-init
 unfolding fields_of
 loop-at-init c = (c.requires.whole, refl)
 
-pub overflow_cast-packet : goal.overflow_cast-packet
-overflow_cast-packet c = omega (arith, c.shared_slice_known-in-loop-at-1.given c.loop-at.at)
-
+-- the next field's place
 pub bounds-packet-at-then-packet-at : goal.bounds-packet-at-then-packet-at
-bounds-packet-at-then-packet-at c = omega (arith, next-told c.before.before.before)
-
-pub returns-then-packet-at-ne2 : goal.returns-then-packet-at-ne2
-returns-then-packet-at-ne2 c = rw (first-told c.before.before, ne_eqb _ 2 c.if-packet-at-ne2.true)
-
-pub overflow_add-at-then-packet-at : goal.overflow_add-at-then-packet-at
-overflow_add-at-then-packet-at c = omega (arith, next-told c.before.before.before.before)
+bounds-packet-at-then-packet-at c = omega (arith, whole-next c.args.packet.now c.loop-at.at c.loop-at.invariant.0 c.loop-at-test.true)
 
 pub bounds-packet-at-then-packet-at-2 : goal.bounds-packet-at-then-packet-at-2
-bounds-packet-at-then-packet-at-2 c = omega (arith, next-told c.before.before.before.before.before)
-
-pub overflow_add-at-then-packet-at-2 : goal.overflow_add-at-then-packet-at-2
-overflow_add-at-then-packet-at-2 c = omega (arith, next-told c.before.before.before.before.before)
+bounds-packet-at-then-packet-at-2 c = omega (arith, whole-next c.args.packet.now c.loop-at.at c.loop-at.invariant.0 c.loop-at-test.true)
 
 pub bounds-packet-at-then-packet-at-3 : goal.bounds-packet-at-then-packet-at-3
-bounds-packet-at-then-packet-at-3 c = omega (arith, next-told c.before.before.before.before.before.before)
+bounds-packet-at-then-packet-at-3 c = omega (arith, whole-next c.args.packet.now c.loop-at.at c.loop-at.invariant.0 c.loop-at-test.true)
+
+pub bounds-packet-at-in-loop-at : goal.bounds-packet-at-in-loop-at
+bounds-packet-at-in-loop-at c = omega (arith, whole-next c.args.packet.now c.loop-at.at c.loop-at.invariant.0 c.loop-at-test.true)
+
+pub returns-then-packet-at-ne2 : goal.returns-then-packet-at-ne2
+returns-then-packet-at-ne2 c =
+    rw (first-told c.args.packet.now c.args.kind c.loop-at.at c.args.resultid c.if-kind-ne2.false c.loop-at.invariant c.loop-at-test.true c.if-packet-at.true, ne_eqb _ 2 c.if-packet-at-ne2.true)
 
 pub returns-then-packet-at : goal.returns-then-packet-at
 returns-then-packet-at c =
-    let else3 = c.before.before.before in
-    let then2 = else3.before.before in
-    let in-loop = then2.before.before in
-    let pair = big_at-two (start in-loop).args.packet.now (in-loop.loop-at.at + 2) in
-    rw (first-told then2, eq-eqb _ 2 else3.if-packet-at-ne2.false, c.u16_of.ensures, sym pair, add_assoc)
-
-pub overflow_add-at-in-loop-at : goal.overflow_add-at-in-loop-at
-overflow_add-at-in-loop-at c = omega (arith, next-told c.before.before)
-
-pub bounds-packet-at-in-loop-at : goal.bounds-packet-at-in-loop-at
-bounds-packet-at-in-loop-at c = omega (arith, next-told c.before.before.before)
+    rw (first-told c.args.packet.now c.args.kind c.loop-at.at c.args.resultid c.if-kind-ne2.false c.loop-at.invariant c.loop-at-test.true c.if-packet-at.true,
+    eq-eqb _ 2 c.if-packet-at-ne2.false, c.u16_of.ensures, sym (big_at-two c.args.packet.now (c.loop-at.at + 2)), add_assoc)
 
 -- where the field ends
-size-told : (c : goal.After-size_of-at)
-    → let at = c.loop-at.at in
-    at + c.size_of-at.result ≡ next_at (start c.before.before.before.before).args.packet.now at
-size-told c =
-    let in-loop = c.before.before.before.before in
-    next-size (start in-loop).args.packet.now in-loop.loop-at.at c.size_of-at.result c.size_of-at.ensures
-
 pub overflow_add-at-in-loop-at-2 : goal.overflow_add-at-in-loop-at-2
-overflow_add-at-in-loop-at-2 c = omega (arith, size-told c, next-told c.before.before.before.before)
+overflow_add-at-in-loop-at-2 c = omega (arith, next-size c.args.packet.now c.loop-at.at c.size_of-at.result c.size_of-at.ensures, whole-next c.args.packet.now c.loop-at.at c.loop-at.invariant.0 c.loop-at-test.true)
 
 pub loop-at-smaller : goal.loop-at-smaller
-loop-at-smaller c = omega (arith, size-told c, next-told c.before.before.before.before)
+loop-at-smaller c = omega (arith, next-size c.args.packet.now c.loop-at.at c.size_of-at.result c.size_of-at.ensures, whole-next c.args.packet.now c.loop-at.at c.loop-at.invariant.0 c.loop-at-test.true)
 
 pub loop-at-preserved : goal.loop-at-preserved
 loop-at-preserved c =
-    let in-loop = c.before.before.before.before in
-    let a = (start in-loop).args in
-    let at = in-loop.loop-at.at in
-    rw (size-told c) (
-      sym (stop_from-right a.packet.now at (right-told in-loop)) ∙ in-loop.loop-at.invariant.0,
-      sym (granted-next a.packet.now at a.resultid (right-told in-loop) c.if-packet-at.false) ∙ in-loop.loop-at.invariant.1,
+    let p = c.args.packet.now in
+    let at = c.loop-at.at in
+    let right = stop_from-whole c.args.packet.now c.loop-at.at c.loop-at.invariant.0 c.loop-at-test.true in
+    rw (next-size c.args.packet.now c.loop-at.at c.size_of-at.result c.size_of-at.ensures) (
+      sym (stop_from-right p at right) ∙ c.loop-at.invariant.0,
+      sym (granted-next p at c.args.resultid right c.if-packet-at.false) ∙ c.loop-at.invariant.1,
     )
 
 pub returns : goal.returns

@@ -1,13 +1,13 @@
 -- `kinds::judge::lacks` meets its contract. The invariant: a slot that must be filled is open exactly if one from i on is.
 -- Assumes nothing.
 use mathlib.Core.Path.{◌≡◌, refl, sym, ◌∙◌}
-use mathlib.Core.Logic.{⊎_elim}
 use Prim.Native.Nat.{◌-◌}
 use native.Mathlib.Omega.{arith}
 use lib.ListN.{length}
 use borrow.Author.Rules.{rules}
 use Rattle.kinds.proofs.Laws.Slots.{lack_in-end, lackIn-open, lackIn-filled, lackIn-free}
 use Rattle.kinds.proofs.judge.lacks.Goals as goal
+use Rattle.kinds.proofs.judge.lacks.Goals.{then-slot+else-places-i-eq0, else-slot}
 
 pub loop-i-init : goal.loop-i-init
 loop-i-init c = (omega arith, refl)
@@ -16,26 +16,26 @@ pub returns-then-places-i-eq0 : goal.returns-then-places-i-eq0
 returns-then-places-i-eq0 c =
     let a = c.args in
     let i = c.loop-i.i in
-    let n : length a.t1 ≡ 3 = search rules in
-    let m : length a.t2 ≡ 3 = search rules in
-    sym (lackIn-open a.t1 a.t2 i (omega arith) (omega arith) c.if-slot.true c.if-places-i-eq0.true) ∙ c.loop-i.invariant.1
+    let n : length a.slots ≡ 3 = search rules in
+    let m : length a.places ≡ 3 = search rules in
+    sym (lackIn-open a.slots a.places i (omega arith) (omega arith) c.if-slot.true c.if-places-i-eq0.true) ∙ c.loop-i.invariant.1
 
 pub loop-i-preserved : goal.loop-i-preserved
 loop-i-preserved c =
     let a = c.args in
     let i = c.loop-i.i in
-    let n : length a.t1 ≡ 3 = search rules in
-    let m : length a.t2 ≡ 3 = search rules in (
+    let n : length a.slots ≡ 3 = search rules in
+    let m : length a.places ≡ 3 = search rules in (
       omega arith,
-      ⊎_elim
-          (λ w. sym (lackIn-filled a.t1 a.t2 i (omega arith) (omega arith) w.1.left))
-          (λ w. sym (lackIn-free a.t1 a.t2 i (omega arith) (omega arith) w.left))
-          c.if-slot.branch
+      elim c.if-slot.branch [
+        then-slot+else-places-i-eq0 w ↦ sym (lackIn-filled a.slots a.places i (omega arith) (omega arith) w.if-places-i-eq0.false)
+        | else-slot w ↦ sym (lackIn-free a.slots a.places i (omega arith) (omega arith) w.if-slot.false)
+      ]
           ∙ c.loop-i.invariant.1,
     )
 
 pub returns : goal.returns
 returns c =
     let a = c.args in
-    let n : length a.t1 ≡ 3 = search rules in
-    sym (lack_in-end a.t1 a.t2 c.loop-i.i (omega arith)) ∙ c.loop-i.invariant.1
+    let n : length a.slots ≡ 3 = search rules in
+    sym (lack_in-end a.slots a.places c.loop-i.i (omega arith)) ∙ c.loop-i.invariant.1

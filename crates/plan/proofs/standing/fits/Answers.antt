@@ -12,26 +12,22 @@ use Rattle.plan.proofs.standing.fits.Goals as goal
 pub returns-in-1 : goal.returns-in-1
 returns-in-1 c =
     let narrow = c.is_indicator-narrow.ensures in
-    ⊎_elim (λ e. narrow ∙ sym (fits-request _ e)) (λ e. narrow ∙ sym (fits-end-request _ e)) c.in-1.keys1
+    ⊎_elim (λ e. narrow ∙ sym (fits-request _ e)) (λ e. narrow ∙ sym (fits-end-request _ e)) c.in-1.is
 
 pub returns-in-2 : goal.returns-in-2
 returns-in-2 c =
-    let keys = c.before.before.before in
-    let narrow = keys.before.before in
-    let at : ℕ → ℕ = λ k. get_or narrow.args.message.now k 0 in
-    rw (c.is_verdict.ensures, narrow.is_indicator-narrow.ensures, fits-response _ keys.in-1.keys2)
+    let at : ℕ → ℕ = λ k. get_or c.args.message.now k 0 in
+    rw (c.is_verdict.ensures, c.is_indicator-narrow.ensures, fits-response _ c.in-2.is)
     (and_assoc (ltb (at 7) 2) (cause_fits (eqb (at 7) 1) (at 8)) (indicator_fits (at 9)))
 
 pub returns-in-4 : goal.returns-in-4
-returns-in-4 c = ⊎_elim (λ e. sym (fits-end-response _ e)) (λ e. sym (fits-transmission-response _ e)) c.in-1.keys3
+returns-in-4 c = ⊎_elim (λ e. sym (fits-end-response _ e)) (λ e. sym (fits-transmission-response _ e)) c.in-4.is
 
 pub returns-in-5 : goal.returns-in-5
-returns-in-5 c = rw (c.is_indicator-narrow.ensures, fits-end _ c.in-1.keys4)
+returns-in-5 c = rw (c.is_indicator-narrow.ensures, fits-end _ c.in-5.is)
 
 pub returns-in-7 : goal.returns-in-7
-returns-in-7 c = sym (fits-ack _ c.in-1.keys5)
+returns-in-7 c = sym (fits-ack _ c.in-7.is)
 
 pub returns-in_default : goal.returns-in_default
-returns-in_default c =
-    let n = c.in-1.rest in
-    sym (fits-none _ ((((((((n.0.0.0.0.0, λ e. n.0.0.0.0.1 (inl e)), n.0.0.0.1), λ e. n.0.0.0.0.1 (inr e)), λ e. n.0.0.1 (inl e)), n.0.1), λ e. n.0.0.1 (inr e)), n.1)))
+returns-in_default c = let d = c.in_default in ?

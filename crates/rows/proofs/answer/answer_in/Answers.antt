@@ -13,6 +13,5 @@ returns-then-row-ne-ANSWER c = sym (answer-miscounted c.args.row.now c.if-row-ne
 
 pub returns : goal.returns
 returns c =
-    let test = c.before.before.before.before.before.before.before in
-    let row = test.args.row.now in
-    subst (λ (l : List ℕ). answering_said c.answer_of.result ≡ answer_in l) (listed-drop 6 0 row test.if-row-ne-ANSWER.false) c.answer_of.ensures
+    let row = c.args.row.now in
+    subst (λ (l : List ℕ). answering_said c.answer_of.result ≡ answer_in l) (listed-drop 6 0 row c.if-row-ne-ANSWER.false) c.answer_of.ensures

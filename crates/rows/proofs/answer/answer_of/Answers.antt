@@ -4,54 +4,62 @@ use mathlib.Core.List.{List, [], ◌∷◌}
 use mathlib.Core.Option.{none, some}
 use Prim.Native.Nat.{ℕ}
 use lib.ListN.{length, get_or}
+use Rattle.streams.specs.declared.Answer.{Answer}
 use Rattle.rows.specs.Rows.{answer_row, answer_in}
 use Rattle.rows.proofs.Laws.Answers.{likely_in, answer-none, answer-known, answer-length, six}
 use Rattle.rows.proofs.answer.answer_of.Goals as goal
 
--- the six numbers
-abbrev lent : goal.After-row_of-own → List ℕ
-lent c =
-    let a = c.args in
-    a.done ∷ a.kind ∷ a.result ∷ a.cause ∷ a.stops ∷ a.starts ∷ []
-
--- the row that was made is their likely answer's
-own : (c : goal.After-row_of-own) → c.row_of-own.result ≡ answer_row (likely_in (lent c))
-own c = c.row_of-own.ensures.0 ∙ ap answer_row c.likely-answer.ensures
-
--- where a number of it is another, no answer has these
-differs : (c : goal.After-row_of-own) (k : ℕ) → (get_or c.row_of-own.result k 0 ≡ get_or (lent c) k 0 → ⊥) → none ≡ answer_in (lent c)
-differs c k n = sym (answer-none (lent c) (λ e. n (ap (λ (l : List ℕ). get_or l k 0) (own c ∙ e))))
+-- where a number of the row that was made of their likely answer is another, no answer has the six
+differs : (lent own : List ℕ) (answer : Answer) (k : ℕ)
+    → own ≡ answer_row answer → answer ≡ likely_in lent → (get_or own k 0 ≡ get_or lent k 0 → ⊥) → none ≡ answer_in lent
+differs lent own answer k made e n = sym (answer-none lent (λ f. n (ap (λ (l : List ℕ). get_or l k 0) (made ∙ ap answer_row e ∙ f))))
 
 -- where it is these, they stand for that answer
-held : (c : goal.After-row_of-own) → c.row_of-own.result ≡ lent c → some c.likely-answer.result ≡ answer_in (lent c)
-held c e = ap some c.likely-answer.ensures ∙ sym (answer-known (lent c) (sym (own c) ∙ e))
+held : (lent own : List ℕ) (answer : Answer)
+    → own ≡ answer_row answer → answer ≡ likely_in lent → own ≡ lent → some answer ≡ answer_in lent
+held lent own answer made e h = ap some e ∙ sym (answer-known lent (sym (ap answer_row e) ∙ sym made ∙ h))
 
 pub returns-then-own-done : goal.returns-then-own-done
-returns-then-own-done c = differs c.before 0 c.if-own-done.true
+returns-then-own-done c =
+    let a = c.args in
+    let lent = a.done ∷ a.kind ∷ a.res ∷ a.cause ∷ a.stops ∷ a.starts ∷ [] in
+    differs lent _ c.likely-answer.result 0 c.row_of-own.ensures.0 c.likely-answer.ensures c.if-own-done.true
 
 pub returns-then-own-kind : goal.returns-then-own-kind
-returns-then-own-kind c = differs c.before.before 1 c.if-own-kind.true
+returns-then-own-kind c =
+    let a = c.args in
+    let lent = a.done ∷ a.kind ∷ a.res ∷ a.cause ∷ a.stops ∷ a.starts ∷ [] in
+    differs lent _ c.likely-answer.result 1 c.row_of-own.ensures.0 c.likely-answer.ensures c.if-own-kind.true
 
 pub returns-then-own-res : goal.returns-then-own-res
-returns-then-own-res c = differs c.before.before.before 2 c.if-own-res.true
+returns-then-own-res c =
+    let a = c.args in
+    let lent = a.done ∷ a.kind ∷ a.res ∷ a.cause ∷ a.stops ∷ a.starts ∷ [] in
+    differs lent _ c.likely-answer.result 2 c.row_of-own.ensures.0 c.likely-answer.ensures c.if-own-res.true
 
 pub returns-then-own-cause : goal.returns-then-own-cause
-returns-then-own-cause c = differs c.before.before.before.before 3 c.if-own-cause.true
+returns-then-own-cause c =
+    let a = c.args in
+    let lent = a.done ∷ a.kind ∷ a.res ∷ a.cause ∷ a.stops ∷ a.starts ∷ [] in
+    differs lent _ c.likely-answer.result 3 c.row_of-own.ensures.0 c.likely-answer.ensures c.if-own-cause.true
 
 pub returns-then-own-stops : goal.returns-then-own-stops
-returns-then-own-stops c = differs c.before.before.before.before.before 4 c.if-own-stops.true
+returns-then-own-stops c =
+    let a = c.args in
+    let lent = a.done ∷ a.kind ∷ a.res ∷ a.cause ∷ a.stops ∷ a.starts ∷ [] in
+    differs lent _ c.likely-answer.result 4 c.row_of-own.ensures.0 c.likely-answer.ensures c.if-own-stops.true
 
 pub returns-then-own-starts : goal.returns-then-own-starts
-returns-then-own-starts c = differs c.before.before.before.before.before.before 5 c.if-own-starts.true
+returns-then-own-starts c =
+    let a = c.args in
+    let lent = a.done ∷ a.kind ∷ a.res ∷ a.cause ∷ a.stops ∷ a.starts ∷ [] in
+    differs lent _ c.likely-answer.result 5 c.row_of-own.ensures.0 c.likely-answer.ensures c.if-own-starts.true
 
 pub returns : goal.returns
 returns c =
-    let else5 = c.before in
-    let else4 = else5.before in
-    let else3 = else4.before in
-    let else2 = else3.before in
-    let else1 = else2.before in
-    let made = else1.before in
-    let long = ap length made.row_of-own.ensures.0 ∙ answer-length made.likely-answer.result in
-    let first = six made.row_of-own.result _ _ _ _ _ _ long else1.if-own-done.false else2.if-own-kind.false else3.if-own-res.false in
-    held made (first else4.if-own-cause.false else5.if-own-stops.false c.if-own-starts.false)
+    let a = c.args in
+    let lent = a.done ∷ a.kind ∷ a.res ∷ a.cause ∷ a.stops ∷ a.starts ∷ [] in
+    let long = ap length c.row_of-own.ensures.0 ∙ answer-length c.likely-answer.result in
+    let first = six c.row_of-own.result _ _ _ _ _ _ long c.if-own-done.false c.if-own-kind.false c.if-own-res.false in
+    let same = first c.if-own-cause.false c.if-own-stops.false c.if-own-starts.false in
+    held lent _ c.likely-answer.result c.row_of-own.ensures.0 c.likely-answer.ensures same

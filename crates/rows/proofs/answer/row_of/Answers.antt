@@ -2,61 +2,61 @@
 use Rattle.streams.specs.declared.Answer.TheVariants.{GrantedFirst, Granted, GrantedAgain, Rejected, Ended, EndedLast, Opened, EndRequested, Freed, FreedWithAck, ReleasedIdle, ReleasedWatched, ReleasedEnding, Discarded}
 use Rattle.rows.specs.Rows.{timers_sum}
 use Rattle.rows.proofs.Laws.Answers.{own_row}
-use borrow.Author.Rules.{rules}
+use native.Mathlib.Omega.{arith}
 use Rattle.rows.proofs.answer.row_of.Goals as goal
 
 pub returns-in-GrantedFirst : goal.returns-in-GrantedFirst
 unfolding timers_sum
-returns-in-GrantedFirst c = rw c.enum_told-1.given.1 (own_row GrantedFirst tt)
+returns-in-GrantedFirst c = rw c.in-GrantedFirst.is (own_row GrantedFirst tt)
 
 pub returns-in-Granted : goal.returns-in-Granted
 unfolding timers_sum
-returns-in-Granted c = rw c.enum_told-in-Granted-1.given.1 (own_row Granted tt)
+returns-in-Granted c = rw c.in-Granted.is (own_row Granted tt)
 
 pub returns-in-GrantedAgain : goal.returns-in-GrantedAgain
 unfolding timers_sum
-returns-in-GrantedAgain c = rw c.enum_told-in-GrantedAgain-1.given.1 (own_row GrantedAgain tt)
+returns-in-GrantedAgain c = rw c.in-GrantedAgain.is (own_row GrantedAgain tt)
 
 pub returns-in-Rejected : goal.returns-in-Rejected
 unfolding timers_sum
-returns-in-Rejected c = rw c.answer-1.given.1 (own_row (Rejected _) (search rules))
+returns-in-Rejected c = rw c.in-Rejected.is (own_row (Rejected c.in-Rejected.cause) (omega arith))
 
 pub returns-in-Ended : goal.returns-in-Ended
 unfolding timers_sum
-returns-in-Ended c = rw c.enum_told-in-Ended-1.given.1 (own_row Ended tt)
+returns-in-Ended c = rw c.in-Ended.is (own_row Ended tt)
 
 pub returns-in-EndedLast : goal.returns-in-EndedLast
 unfolding timers_sum
-returns-in-EndedLast c = rw c.enum_told-in-EndedLast-1.given.1 (own_row EndedLast tt)
+returns-in-EndedLast c = rw c.in-EndedLast.is (own_row EndedLast tt)
 
 pub returns-in-Opened : goal.returns-in-Opened
 unfolding timers_sum
-returns-in-Opened c = rw c.enum_told-in-Opened-1.given.1 (own_row Opened tt)
+returns-in-Opened c = rw c.in-Opened.is (own_row Opened tt)
 
 pub returns-in-EndRequested : goal.returns-in-EndRequested
 unfolding timers_sum
-returns-in-EndRequested c = rw c.answer-in-EndRequested-1.given.1 (own_row (EndRequested _) (search rules))
+returns-in-EndRequested c = rw c.in-EndRequested.is (own_row (EndRequested c.in-EndRequested.cause) (omega arith))
 
 pub returns-in-Freed : goal.returns-in-Freed
 unfolding timers_sum
-returns-in-Freed c = rw c.enum_told-in-Freed-1.given.1 (own_row Freed tt)
+returns-in-Freed c = rw c.in-Freed.is (own_row Freed tt)
 
 pub returns-in-FreedWithAck : goal.returns-in-FreedWithAck
 unfolding timers_sum
-returns-in-FreedWithAck c = rw c.enum_told-in-FreedWithAck-1.given.1 (own_row FreedWithAck tt)
+returns-in-FreedWithAck c = rw c.in-FreedWithAck.is (own_row FreedWithAck tt)
 
 pub returns-in-ReleasedIdle : goal.returns-in-ReleasedIdle
 unfolding timers_sum
-returns-in-ReleasedIdle c = rw c.enum_told-in-ReleasedIdle-1.given.1 (own_row ReleasedIdle tt)
+returns-in-ReleasedIdle c = rw c.in-ReleasedIdle.is (own_row ReleasedIdle tt)
 
 pub returns-in-ReleasedWatched : goal.returns-in-ReleasedWatched
 unfolding timers_sum
-returns-in-ReleasedWatched c = rw c.enum_told-in-ReleasedWatched-1.given.1 (own_row ReleasedWatched tt)
+returns-in-ReleasedWatched c = rw c.in-ReleasedWatched.is (own_row ReleasedWatched tt)
 
 pub returns-in-ReleasedEnding : goal.returns-in-ReleasedEnding
 unfolding timers_sum
-returns-in-ReleasedEnding c = rw c.enum_told-in-ReleasedEnding-1.given.1 (own_row ReleasedEnding tt)
+returns-in-ReleasedEnding c = rw c.in-ReleasedEnding.is (own_row ReleasedEnding tt)
 
 pub returns-in-Discarded : goal.returns-in-Discarded
 unfolding timers_sum
-returns-in-Discarded c = rw c.enum_told-in-Discarded-1.given.1 (own_row Discarded tt)
+returns-in-Discarded c = rw c.in-Discarded.is (own_row Discarded tt)

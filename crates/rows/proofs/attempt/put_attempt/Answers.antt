@@ -9,11 +9,7 @@ use Rattle.rows.proofs.attempt.put_attempt.Goals as goal
 
 pub returns : goal.returns
 returns c =
-    let put = c.before.before in
-    let wanted = put.before.before.before.before in
-    let seen = wanted.before.before in
-    let answer = seen.before.before in
-    let start = answer.before.before.before.before in
-    subst (λ (l : List ℕ). Rowed (gives l) start.args.out-1.now put.put.result put.put.new.0)
-    (try-row start.args.attempt _ _ _ seen.number_of.ensures wanted.number_of-2.ensures answer.row_of-own.ensures.0)
-    put.put.ensures
+    let a = c.args in
+    subst (λ (l : List ℕ). Rowed (gives l) a.out.now c.put.result c.put.new.out)
+    (try-row a.attempt _ _ _ c.number_of.ensures c.number_of-2.ensures c.row_of-own.ensures.0)
+    c.put.ensures

@@ -20,40 +20,37 @@ returns-then-stream-ge-OCTET_END c = sym (stream-unheld c.args.row.now c.if-stre
 pub returns-then-by-ge-OCTET_END : goal.returns-then-by-ge-OCTET_END
 returns-then-by-ge-OCTET_END c = sym (sender_unheld c.args.row.now c.if-by-ge-OCTET_END.true)
 
--- the row that was lent
-abbrev lent : goal.After-row_of-own → List ℕ
-lent c = c.args.row.now
-
--- the row that was made is its likely event's
-own : (c : goal.After-row_of-own) → c.row_of-own.result ≡ event_row (likely_in (lent c))
-own c = c.row_of-own.ensures ∙ ap (what_row (get_or (lent c) 1 0)) c.likely-what.ensures
-
--- where a number of it is another, no event has these
-differs : (c : goal.After-row_of-own) (k : ℕ)
-    → (get_or c.row_of-own.result k 0 ≡ get_or (lent c) k 0 → ⊥) → none ≡ event_held (lent c)
-differs c k n = sym (event-unheld (lent c) (event-none (lent c) (λ e. n (ap (λ (l : List ℕ). get_or l k 0) (own c ∙ e)))))
+-- where a number of the row that was made of the likely event is another, no event has these
+differs : (row own : List ℕ) (what : What) (k : ℕ)
+    → own ≡ what_row (get_or row 1 0) what → event_on (get_or row 1 0) what ≡ likely_in row
+    → (get_or own k 0 ≡ get_or row k 0 → ⊥) → none ≡ event_held row
+differs row own what k made e n = sym (event-unheld row (event-none row (λ f. n (ap (λ (l : List ℕ). get_or l k 0) (made ∙ ap event_row e ∙ f)))))
 
 pub returns-then-own-row : goal.returns-then-own-row
-returns-then-own-row c = differs c.before.before 0 c.if-own-row.true
+returns-then-own-row c =
+    let row = c.args.row.now in
+    differs row _ c.likely-what.result 0 c.row_of-own.ensures (ap (event_on (get_or row 1 0)) c.likely-what.ensures) c.if-own-row.true
 
 pub returns-then-own-by : goal.returns-then-own-by
-returns-then-own-by c = differs c.before.before.before 2 c.if-own-by.true
+returns-then-own-by c =
+    let row = c.args.row.now in
+    differs row _ c.likely-what.result 2 c.row_of-own.ensures (ap (event_on (get_or row 1 0)) c.likely-what.ensures) c.if-own-by.true
 
 pub returns-then-own-row-2 : goal.returns-then-own-row-2
-returns-then-own-row-2 c = differs c.before.before.before.before.before 3 c.if-own-row-2.true
+returns-then-own-row-2 c =
+    let row = c.args.row.now in
+    differs row _ c.likely-what.result 3 c.row_of-own.ensures (ap (event_on (get_or row 1 0)) c.likely-what.ensures) c.if-own-row-2.true
 
 pub returns : goal.returns
 returns c =
-    let else5 = c.before.before in
-    let else4 = else5.before in
-    let made = else4.before.before in
-    let row = lent made in
-    let what = made.likely-what.result in
-    let long = ap length made.row_of-own.ensures ∙ what-length (get_or row 1 0) what in
-    let stream = ap (λ (l : List ℕ). get_or l 1 0) made.row_of-own.ensures ∙ what-stream (get_or row 1 0) what in
-    let else3 = made.before.before.before.before in
-    let counted = else3.if-row-ne-EVENT.false in
-    let whole = four made.row_of-own.result row long counted else4.if-own-row.false stream else5.if-own-by.false c.if-own-row-2.false in
-    sym (event-held row else3.if-stream-ge-OCTET_END.false else3.if-by-ge-OCTET_END.false
-    ∙ event-known row (sym (own made) ∙ whole)
-    ∙ ap (λ (w : What). some (event_on (get_or row 1 0) w)) (sym made.likely-what.ensures))
+    let row = c.args.row.now in
+    let what = c.likely-what.result in
+    let own = c.row_of-own in
+    let likely = ap (event_on (get_or row 1 0)) c.likely-what.ensures in
+    let long = ap length own.ensures ∙ what-length (get_or row 1 0) what in
+    let stream = ap (λ (l : List ℕ). get_or l 1 0) own.ensures ∙ what-stream (get_or row 1 0) what in
+    let counted = c.if-row-ne-EVENT.false in
+    let whole = four own.result row long counted c.if-own-row.false stream c.if-own-by.false c.if-own-row-2.false in
+    sym (event-held row c.if-stream-ge-OCTET_END.false c.if-by-ge-OCTET_END.false
+    ∙ event-known row (sym (own.ensures ∙ ap event_row likely) ∙ whole)
+    ∙ ap some (sym likely))

@@ -8,19 +8,19 @@ use Rattle.rows.proofs.event.row_of.Goals as goal
 
 pub returns-in-Request : goal.returns-in-Request
 unfolding what_row
-returns-in-Request c = rw c.what-1.given.1
+returns-in-Request c = rw c.in-Request.is
 
 pub returns-in-End : goal.returns-in-End
 unfolding what_row
-returns-in-End c = rw c.what-in-End-1.given.1
+returns-in-End c = rw c.in-End.is
 
 pub returns-in-Open : goal.returns-in-Open
 unfolding what_row
-returns-in-Open c = rw c.enum_told-1.given.1
+returns-in-Open c = rw c.in-Open.is
 
 pub returns-in-T11 : goal.returns-in-T11
 unfolding what_row
-returns-in-T11 c = rw c.enum_told-in-T11-1.given.1
+returns-in-T11 c = rw c.in-T11.is
 
 -- a bool as a number
 byte_flag : (b : Bool) → bool_byte b ≡ flag b
@@ -29,8 +29,8 @@ byte_flag false = refl
 
 pub returns-in-EndResponse : goal.returns-in-EndResponse
 unfolding what_row
-returns-in-EndResponse c = rw (c.what-in-EndResponse-1.given.1, byte_flag c.what-in-EndResponse-1.given.0.0)
+returns-in-EndResponse c = rw (c.in-EndResponse.is, byte_flag c.in-EndResponse.ack)
 
 pub returns-in-Release : goal.returns-in-Release
 unfolding what_row
-returns-in-Release c = rw c.enum_told-in-Release-1.given.1
+returns-in-Release c = rw c.in-Release.is

@@ -6,15 +6,15 @@ use Rattle.rows.proofs.record.record_of.Goals as goal
 
 pub returns-in-0 : goal.returns-in-0
 unfolding record_by
-returns-in-0 c = rw c.in-0.keys1
+returns-in-0 c = rw c.in-0.is
 
 pub returns-in-1 : goal.returns-in-1
 unfolding record_by
-returns-in-1 c = rw c.in-0.keys2
+returns-in-1 c = rw c.in-1.is
 
 pub returns-in-2 : goal.returns-in-2
 unfolding record_by
-returns-in-2 c = rw c.in-0.keys3
+returns-in-2 c = rw c.in-2.is
 
 pub returns-in_default : goal.returns-in_default
 returns-in_default c = record_last _ _ (omega arith)

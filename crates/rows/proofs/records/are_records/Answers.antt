@@ -3,7 +3,6 @@
 use mathlib.Core.Path.{refl, sym, ◌∙◌}
 use Prim.Native.Nat.{◌-◌, ◌≤◌}
 use native.Mathlib.Omega.{arith}
-use borrow.Author.Tests.{not-true, not-false}
 use lib.ListN.{length, drop_of_length-le}
 use Rattle.rows.specs.Rows.{records_from}
 use Rattle.rows.proofs.Laws.Records.{records-counted, records-other, from_step}
@@ -15,27 +14,21 @@ returns-then-octets-ne-RECORDS c = rw (records-other 8 _ c.if-octets-ne-RECORDS.
 pub loop-at-init : goal.loop-at-init
 loop-at-init c = (omega arith, refl, refl)
 
-pub overflow_cast-octets : goal.overflow_cast-octets
-overflow_cast-octets c = omega (arith, c.shared_slice_known-in-loop-at-1.given c.loop-at.at)
-
 pub returns-then-not-is_phase : goal.returns-then-not-is_phase
 returns-then-not-is_phase c =
-    let l = c.before.before.before.before in
-    let octets = l.args.octets.now in
-    let step = from_step octets l.loop-at.at (omega arith) in
-    rw (records-counted 8 octets l.if-octets-ne-RECORDS.false, l.loop-at.invariant.2, step, sym c.is_phase.ensures ∙ c.if-not-is_phase.true)
+    let octets = c.args.octets.now in
+    let step = from_step octets c.loop-at.at (omega arith) in
+    rw (records-counted 8 octets c.if-octets-ne-RECORDS.false, c.loop-at.invariant.2, step, sym c.is_phase.ensures ∙ c.if-not-is_phase.true)
 
 pub loop-at-preserved : goal.loop-at-preserved
 loop-at-preserved c =
-    let l = c.before.before.before.before in
-    let octets = l.args.octets.now in
-    let step = from_step octets l.loop-at.at (omega arith) in
-    (omega arith, omega arith, l.loop-at.invariant.2 ∙ (step ∙ rw (sym c.is_phase.ensures ∙ c.if-not-is_phase.false)))
+    let octets = c.args.octets.now in
+    let step = from_step octets c.loop-at.at (omega arith) in
+    (omega arith, omega arith, c.loop-at.invariant.2 ∙ (step ∙ rw (sym c.is_phase.ensures ∙ c.if-not-is_phase.false)))
 
 pub returns : goal.returns
 unfolding records_from
 returns c =
-    let l = c.before in
-    let octets = l.args.octets.now in
-    let end : length octets ≤ l.loop-at.at = omega arith in
-    rw (records-counted 8 octets l.if-octets-ne-RECORDS.false, l.loop-at.invariant.2, drop_of_length-le octets end)
+    let octets = c.args.octets.now in
+    let end : length octets ≤ c.loop-at.at = omega arith in
+    rw (records-counted 8 octets c.if-octets-ne-RECORDS.false, c.loop-at.invariant.2, drop_of_length-le octets end)

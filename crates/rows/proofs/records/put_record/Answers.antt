@@ -11,6 +11,5 @@ returns-then-out-lt-RECORD c = rowed-short _ _ (omega arith)
 
 pub returns : goal.returns
 returns c =
-    let put = c.put_at in
     let a = c.args in
-    rowed-gives (record_row a.own) a.out-1.now _ (omega arith) (put.ensures ∙ sym (over-put_at (record_row a.own) a.out-1.now (omega arith)))
+    rowed-gives (record_row a.own) a.out.now _ (omega arith) (c.put_at.ensures ∙ sym (over-put_at (record_row a.own) a.out.now (omega arith)))

@@ -1,7 +1,6 @@
 -- `seats::find::is_new_name` meets its contract: a name is new where it can be a User ID and `by_user` finds nobody.
 -- Assumes nothing.
 use mathlib.Core.Path.{sym, ap, ◌∙◌}
-use borrow.Author.Tests.{not-true, not-false}
 use Rattle.seats.specs.Found.{found_said}
 use Rattle.sheet.proofs.Laws.Rows.{newName-bad, newName-taken, newName-free}
 use Rattle.seats.proofs.find.is_new_name.Goals as goal
@@ -14,12 +13,11 @@ returns-then-not-is_user_id c =
 pub returns-in-Seat : goal.returns-in-Seat
 returns-in-Seat c =
     let a = c.args in
-    sym (newName-taken a.seats a.users.now a.name.now _ (sym c.by_user-found.ensures ∙ ap found_said c.enum_told-1.given.1))
+    sym (newName-taken a.seats a.users.now a.name.now _ (sym c.by_user-found.ensures ∙ ap found_said c.in-Seat.is))
 
 pub returns-in-Nobody : goal.returns-in-Nobody
 returns-in-Nobody c =
-    let else1 = c.before.before.before in
-    let a = else1.args in
+    let a = c.args in
     sym (newName-free a.seats a.users.now a.name.now
-    (sym else1.is_user_id.ensures ∙ else1.if-not-is_user_id.false)
-    (sym c.by_user-found.ensures ∙ ap found_said c.enum_told-in-Nobody-1.given.1))
+    (sym c.is_user_id.ensures ∙ c.if-not-is_user_id.false)
+    (sym c.by_user-found.ensures ∙ ap found_said c.in-Nobody.is))

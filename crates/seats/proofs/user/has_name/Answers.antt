@@ -1,10 +1,11 @@
 -- `seats::user::has_name` meets its contract: what it asks one after the other is what `same-name_of` says.
 -- Assumes nothing.
 use mathlib.Core.Path.{◌≡◌, sym, ◌∙◌}
-use mathlib.Core.Bool.{◌&&◌}
-use borrow.Author.Tests.{not-true, not-false}
+use mathlib.Core.Bool.{Bool, true, ◌&&◌}
+use mathlib.Core.List.{List}
+use Prim.Native.Nat.{ℕ}
 use native.Mathlib.Omega.{arith}
-use lib.ListN.{length}
+use lib.ListN.{length, get_or, take}
 use lib.Seq.{take_all}
 use lib.Dec.{eqb}
 use Rattle.octets.specs.Choice.{same}
@@ -25,16 +26,17 @@ returns-then-not-ends_at c =
     sym (same-name_of a.row.now a.name.now ∙ rw ends)
 
 -- what is left to ask behind the second question
-asked : (c : goal.After-is_same) → let a = c.args in
-    same (name_of a.row.now) a.name.now ≡ (c.is_same.result && eqb (length (name_of a.name.now)) (length a.name.now))
-asked c =
-    let else2 = c.before in
-    let a = else2.args in
-    let ends = sym else2.ends_at.ensures ∙ else2.if-not-ends_at.false in
-    same-name_of a.row.now a.name.now ∙ rw (ends, c.is_same.ensures, take_all (length a.name.now) a.name.now (omega arith))
+asked : (row name : List ℕ) (alike : Bool) → eqb (get_or row (length name) 0) 0 ≡ true
+    → alike ≡ same (take (length name) row) (take (length name) name)
+    → same (name_of row) name ≡ (alike && eqb (length (name_of name)) (length name))
+asked row name alike ends same-so-far = same-name_of row name ∙ rw (ends, same-so-far, take_all (length name) name (omega arith))
 
 pub returns-then-not-is_same : goal.returns-then-not-is_same
-returns-then-not-is_same c = sym (asked c.before ∙ rw (not-true c.is_same.result c.if-not-is_same.true))
+returns-then-not-is_same c =
+    let ends = sym c.ends_at.ensures ∙ c.if-not-ends_at.false in
+    sym (asked c.args.row.now c.args.name.now _ ends c.is_same.ensures ∙ rw c.if-not-is_same.true)
 
 pub returns : goal.returns
-returns c = rw c.name_length.ensures (sym (asked c.before.before ∙ rw (not-false c.is_same.result c.if-not-is_same.false)))
+returns c =
+    let ends = sym c.ends_at.ensures ∙ c.if-not-ends_at.false in
+    rw c.name_length.ensures (sym (asked c.args.row.now c.args.name.now _ ends c.is_same.ensures ∙ rw c.if-not-is_same.false))

@@ -12,13 +12,6 @@ use Rattle.sheet.specs.Inner.{within}
 use Rattle.sheet.proofs.Laws.Rules.{rule-between}
 use Rattle.sheet.proofs.line.are_within.Goals as goal
 
--- the answer on line k is that of the definition's row
-judged : (c : goal.After-is_within-good)
-    → let at-loop = c.before.before.before.before in
-    let k = at-loop.loop-k.k in
-    c.is_within-good.result ≡ within k (get_or at-loop.args.numbers.now k 0)
-judged c = c.is_within-good.ensures ∙ rule-between c.rule_of.ensures _
-
 pub loop-k-init : goal.loop-k-init
 unfolding number_lines table
 loop-k-init c = (search rules, ((λ t. below_none _), λ all. tt))
@@ -26,9 +19,6 @@ loop-k-init c = (search rules, ((λ t. below_none _), λ all. tt))
 pub bounds-numbers-k : goal.bounds-numbers-k
 unfolding number_lines table
 bounds-numbers-k c = omega arith
-
-pub overflow_cast-numbers : goal.overflow_cast-numbers
-overflow_cast-numbers c = omega (arith, c.shared_slice_known-in-loop-k-1.given c.loop-k.k)
 
 pub overflow_add-k : goal.overflow_add-k
 unfolding number_lines table
@@ -41,12 +31,13 @@ loop-k-smaller c = omega arith
 pub loop-k-preserved : goal.loop-k-preserved
 unfolding number_lines table
 loop-k-preserved c =
-    let at-loop = c.before.before.before.before in
-    let k = at-loop.loop-k.k in
-    let good = at-loop.loop-k.good in
-    let here = within k (get_or at-loop.args.numbers.now k 0) in
-    let so_far = at-loop.loop-k.invariant.1 in
-    rw (judged c) (
+    let k = c.loop-k.k in
+    let good = c.loop-k.good in
+    let here = within k (get_or c.args.numbers.now k 0) in
+    let so_far = c.loop-k.invariant.1 in
+    -- the answer on line k is that of the definition's row
+    let judged : c.is_within-good.result ≡ here = c.is_within-good.ensures ∙ rule-between c.rule_of.ensures _ in
+    rw judged (
       omega arith,
       (
         (λ t. below_more _ k (so_far.0 (T-and-left good here t)) (T-and-right good here t)),

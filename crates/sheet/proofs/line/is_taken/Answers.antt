@@ -2,10 +2,10 @@
 -- no line before the eldest is of the family.
 -- Assumes nothing.
 use mathlib.Core.Path.{sym, ◌∙◌}
-use mathlib.Core.Logic.{⊎_elim}
 use Prim.Native.Nat.{◌-◌}
 use Rattle.sheet.proofs.Laws.Numbers.{taken_here, taken-skip, taken-end, taken-from}
 use Rattle.sheet.proofs.line.is_taken.Goals as goal
+use Rattle.sheet.proofs.line.is_taken.Goals.{then-earlier-j+else-rule-family, else-earlier-j}
 
 pub loop-j-init : goal.loop-j-init
 loop-j-init c =
@@ -14,21 +14,20 @@ loop-j-init c =
 
 pub returns-then-rule-family : goal.returns-then-rule-family
 returns-then-rule-family c =
-    let here = c.before.before.before in
-    let in-loop = here.before.before in
-    let l = in-loop.loop-j in
-    let a = in-loop.args in
+    let a = c.args in
     let p = sym c.rule_of-rule.ensures.family ∙ c.if-rule-family.true in
-    sym (l.invariant ∙ taken_here a.family a.n a.earlier.now l.j in-loop.loop-j-test.true p here.if-earlier-j.true)
+    sym (c.loop-j.invariant ∙ taken_here a.family a.n a.earlier.now c.loop-j.j c.loop-j-test.true p c.if-earlier-j.true)
 
 pub loop-j-preserved : goal.loop-j-preserved
 loop-j-preserved c =
-    let in-loop = c.before.before in
-    let l = in-loop.loop-j in
-    let a = in-loop.args in
-    l.invariant
-    ∙ taken-skip a.family a.n a.earlier.now l.j in-loop.loop-j-test.true
-    (λ p q. ⊎_elim (λ w. w.3.left (w.1.ensures.family ∙ p)) (λ w. w.left q) c.if-earlier-j.branch)
+    let a = c.args in
+    c.loop-j.invariant
+    ∙ taken-skip a.family a.n a.earlier.now c.loop-j.j c.loop-j-test.true
+    (λ p q.
+        elim c.if-earlier-j.branch [
+          then-earlier-j+else-rule-family w ↦ w.if-rule-family.false (w.rule_of-rule.ensures.family ∙ p)
+        | else-earlier-j w ↦ w.if-earlier-j.false q
+        ])
 
 pub returns : goal.returns
 returns c =

@@ -1,4 +1,5 @@
 -- `sheet::line::is_taken` meets its contract. The invariant: the number is taken just if it is on the lines from j on, and
+-- no line before the eldest is of the family.
 use mathlib.Core.Path.{◌≡◌}
 use Prim.Native.Nat.{◌-◌}
 use lib.ListN.{length, drop}

@@ -1,11 +1,10 @@
 -- `sheet::numbers::are_valid` meets its contract: the struct is a sheet's exactly if its lines are right (`valid-right`, `right_valid`).
 -- Assumes nothing.
 use mathlib.Core.Path.{◌≡◌, sym}
-use mathlib.Core.Bool.{Bool, true, false, not}
+use mathlib.Core.Bool.{Bool, false}
 use mathlib.Core.List.{List}
 use Prim.Native.Nat.{ℕ}
 use borrow.Author.Rules.{rules}
-use borrow.Author.Tests.{not-true, not-false}
 use native.Mathlib.Omega.{arith}
 use lib.ListN.{length}
 use lib.Dec.{T}
@@ -17,8 +16,8 @@ use Rattle.sheet.proofs.Laws.Lines.{Right, lines_in, valid-right, right_valid}
 use Rattle.sheet.proofs.numbers.are_valid.Goals as goal
 
 -- numbers of which a part of what is right does not hold
-wrong : (ns : List ℕ) → length ns ≡ 19 → (r : Bool) → not r ≡ true → (Right ns (lines_in ns) → T r) → false ≡ valid_alone (sheet_in ns)
-wrong ns long r e f = sym (T_false (valid_alone (sheet_in ns)) (λ v. false-T r (not-true r e) (f (valid-right ns long v))))
+wrong : (ns : List ℕ) → length ns ≡ 19 → (r : Bool) → r ≡ false → (Right ns (lines_in ns) → T r) → false ≡ valid_alone (sheet_in ns)
+wrong ns long r e f = sym (T_false (valid_alone (sheet_in ns)) (λ v. false-T r e (f (valid-right ns long v))))
 
 pub returns-then-numbers-ne-LINES : goal.returns-then-numbers-ne-LINES
 returns-then-numbers-ne-LINES c = sym (other-not-valid _ c.if-numbers-ne-LINES.true)
@@ -29,34 +28,22 @@ are_within-requires c = search rules
 
 pub returns-then-not-are_within : goal.returns-then-not-are_within
 returns-then-not-are_within c =
-    let within = c.before in
-    wrong _ within.if-numbers-ne-LINES.false within.are_within.result c.if-not-are_within.true (λ r. within.are_within.ensures.1 r.bounds)
-
-pub overflow_cast-lines : goal.overflow_cast-lines
-overflow_cast-lines c = omega (arith, c.shared_slice_known-2-1.given 10)
-
-pub overflow_add-lines : goal.overflow_add-lines
-overflow_add-lines c = omega (arith, c.shared_slice_known-2-1.given 10)
+    wrong _ c.if-numbers-ne-LINES.false c.are_within.result c.if-not-are_within.true (λ r. c.are_within.ensures.1 r.bounds)
 
 pub returns-then-not-are_apart : goal.returns-then-not-are_apart
 unfolding number_lines seats_line table
 returns-then-not-are_apart c =
-    let apart = c.before in
-    let within = apart.before.before.before in
-    wrong _ within.if-numbers-ne-LINES.false apart.are_apart.result c.if-not-are_apart.true (λ r. apart.are_apart.ensures.1 r.apart-five)
+    wrong _ c.if-numbers-ne-LINES.false c.are_apart.result c.if-not-are_apart.true (λ r. c.are_apart.ensures.1 r.apart-five)
 
 pub returns : goal.returns
 unfolding number_lines seats_line table
 returns c =
-    let apart = c.before.before in
-    let read = apart.before in
-    let within = read.before.before in
-    let long = within.if-numbers-ne-LINES.false in
+    let long = c.if-numbers-ne-LINES.false in
     test-eq _ _
-    (λ t. right_valid _ long (λ k. omega (arith, read.shared_slice_known-2-1.given k))
+    (λ t. right_valid _ long (λ k. omega (arith, c.type_inv.numbers k))
     (record {
-      bounds = within.are_within.ensures.0 (true-T within.are_within.result (read.if-not-are_within.false));
-      apart-five = apart.are_apart.ensures.0 (true-T apart.are_apart.result (c.if-not-are_apart.false));
+      bounds = c.are_within.ensures.0 (true-T c.are_within.result c.if-not-are_within.false);
+      apart-five = c.are_apart.ensures.0 (true-T c.are_apart.result c.if-not-are_apart.false);
       apart-seats = λ k h. c.are_apart-2.ensures.0 t k (omega arith);
     }))
     (λ v. c.are_apart-2.ensures.1 (λ k h. (valid-right _ long v).apart-seats k (omega arith)))

@@ -1,9 +1,0 @@
--- `rows::answer::freed` meets its contract: the kind sent tells which of the two it is. Assumes nothing.
-use borrow.Author.Tests.{eq-eqb, ne_eqb}
-use Rattle.rows.proofs.answer.freed.Goals as goal
-
-pub returns-then-kind-eq0 : goal.returns-then-kind-eq0
-returns-then-kind-eq0 c = rw (eq-eqb _ _ c.if-kind-eq0.true)
-
-pub returns-else-kind-eq0 : goal.returns-else-kind-eq0
-returns-else-kind-eq0 c = rw (ne_eqb _ _ c.if-kind-eq0.false)
