@@ -1,5 +1,6 @@
 // A reader that remembers its packet and its place, and hands out one field at a time (document 01, "Packet").
 #![tactic(auto)]
+
 ghost use Rattle.std.specs.Prelude.{◌≡◌};
 ghost use Rattle.fields.specs.Walk.{step_of, step_said};
 ghost use Rattle.field_reader.specs.Reader.{refusal_of, start_of, moved_to};

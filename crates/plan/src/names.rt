@@ -6,6 +6,7 @@ use packet::row::{KIND, NAMED, USER};
 use seats::user::is_user_id;
 
 // Whether the place that stands here in a row, with its length behind it, lies in `names`, and a User ID stands there.
+#[tactic(auto, unfolding(crate::specs::Inner::name_right_at, packet::specs::Claims::name_right))]
 fn is_right(message: &[u32], at: usize, names: &[u8]) -> bool
     requires { at + 1 < length message.now }
     ensures { result ≡ name_right_at names.now message.now at }

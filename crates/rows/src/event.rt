@@ -58,6 +58,7 @@ fn likely(number: u32, by: u8, ack: bool) -> What
 }
 
 // The event that a row stands for.
+#[tactic(auto, using(crate::proofs::Laws::Events::event_uncounted))]
 pub fn event_in(row: &[u32]) -> Eventing
     ensures { event_in≡ row.now result }
 {

@@ -1,6 +1,7 @@
 // Events, answers, attempts and stream records as rows of numbers and octets that a host written in C lends, and back (document 01: "on numbers and
 // octets, with the same answers"). include/coyametzi.h says what each row holds. What is handed in stands for the value whose row it is, or for none.
 #![tactic(auto)]
+
 pub mod answer;
 pub mod attempt;
 pub mod event;

@@ -1,5 +1,6 @@
 // The seats of a call sheet (document 01, "Call sheet"): their User IDs at fixed width, and whose SSRC and whose User ID it is.
 #![tactic(auto)]
+
 pub mod find;
 mod row;
 mod seat;

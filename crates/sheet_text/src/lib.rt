@@ -1,5 +1,6 @@
 // The call sheet read from text (document 01, "Call sheet").
 #![tactic(auto)]
+
 mod scan;
 
 ghost use Rattle.sheet_text.specs.Promises.{read_with≡, read≡, users≡};

@@ -16,9 +16,9 @@ slice_bounds-packet_lent-end-2 c = sym (length-take-le _ _ c.room_of-room.ensure
 pub returns : goal.returns
 unfolding packet_says
 returns c =
-    let told = c.before.before in
-    let lent = told.before.before.before in
-    let room = lent.before.before.before in
-    let a = room.args in
-    wrote (λ (room : ℕ). octets_out (sending_in (sheet_in a.sheet.now) a.users.now a.stream (answer_in a.answer.now) room)) (sent (sheet_in a.sheet.now) a.users.now a.stream (answer_in a.answer.now)) (sending_in_lem (sheet_in a.sheet.now) a.users.now a.stream (answer_in a.answer.now))
-    a.out.now a.written.now room.room_of-room.result room.room_of-room.ensures.0 lent.packet_lent.result _ _ _ lent.packet_lent.ensures told.Put-written.ensures
+    let a = c.args in
+    let sheet = sheet_in a.sheet.now in
+    let answer = answer_in a.answer.now in
+    wrote (λ (room : ℕ). octets_out (sending_in sheet a.users.now a.stream answer room)) (sent sheet a.users.now a.stream answer)
+    (sending_in_lem sheet a.users.now a.stream answer) a.out.now a.written.now c.room_of-room.result c.room_of-room.ensures.0 c.packet_lent.result
+    _ _ _ c.packet_lent.ensures c.put_written.ensures

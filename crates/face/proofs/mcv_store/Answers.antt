@@ -33,6 +33,11 @@ returns-then-not-are_records c =
 stands : (row : List ℕ) (r : Trying) (a : Attempt) → attempt_in≡ row r → r ≡ TryingAttempt a → try_in row ≡ some (attempt_said a)
 stands row r a e is = subst (TryingIs row) is (trying_is row r e)
 
+pub slice_bounds-store-start : goal.slice_bounds-store-start
+slice_bounds-store-start c =
+    let stands = stands c.args.attempt.now _ _ c.attempt_in.ensures c.in-Attempt.is in
+    omega (arith, answered-length _ c.in-Attempt.given stands)
+
 pub slice_bounds-store-count : goal.slice_bounds-store-count
 slice_bounds-store-count c =
     let stands = stands c.args.attempt.now _ _ c.attempt_in.ensures c.in-Attempt.is in

@@ -16,9 +16,9 @@ slice_bounds-write_lent-end-2 c = sym (length-take-le _ _ c.room_of-room.ensures
 pub returns : goal.returns
 unfolding write_says
 returns c =
-    let told = c.before.before in
-    let lent = told.before.before.before in
-    let room = lent.before.before.before in
-    let a = room.args in
-    wrote (λ (room : ℕ). write_of (sheet_in a.sheet.now) (message_in a.message.now) a.names.now room) (written (sheet_in a.sheet.now) (message_in a.message.now) a.names.now) (written_in (sheet_in a.sheet.now) (message_in a.message.now) a.names.now)
-    a.out.now a.written.now room.room_of-room.result room.room_of-room.ensures.0 lent.write_lent.result _ _ _ lent.write_lent.ensures told.Put-written.ensures
+    let a = c.args in
+    let sheet = sheet_in a.sheet.now in
+    let message = message_in a.message.now in
+    wrote (λ (room : ℕ). write_of sheet message a.names.now room) (written sheet message a.names.now) (written_in sheet message a.names.now)
+    a.out.now a.written.now c.room_of-room.result c.room_of-room.ensures.0 c.write_lent.result
+    _ _ _ c.write_lent.ensures c.put_written.ensures

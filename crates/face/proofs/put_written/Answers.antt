@@ -3,8 +3,5 @@ use native.Mathlib.Omega.{arith}
 use Rattle.face.proofs.Laws.Told.{rowed-refuses}
 use Rattle.face.proofs.put_written.Goals as goal
 
-pub returns-in-Written : goal.returns-in-Written
-returns-in-Written c = rw c.in-Written.is c.put_number.ensures
-
 pub returns-in-Refused : goal.returns-in-Refused
 returns-in-Refused c = rw c.in-Refused.is (rowed-refuses c.in-Refused.number 0 _ _ (omega arith))

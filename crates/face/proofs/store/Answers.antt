@@ -40,7 +40,7 @@ returns-then-returned-eq0 c rs e =
     let kept = taken _ a.attempt rs c.settle_lent.result _ said c.in-Took.is in
     let octets = c.put_at.ensures ∙ kept-octets a.records.now rs a.attempt.stream a.attempt.wanted e kept.stream in
     let rowed = subst (λ (row : List ℕ). Rowed (gives row) a.answer.now c.put-returned.result c.put-returned.new.out) c.requires c.put-returned.ensures in
-    subst (λ (s : Said Kept). Keeps s a.records.now a.answer.now c.put-returned.result c.put_at.new.records c.put-returned.new.out)
+    subst (λ (s : Said Kept). Keeps s a.records.now a.answer.now c.put-returned.result c.put_at.new.octets c.put-returned.new.out)
     (sym kept.says)
     (keeps-gives _ a.records.now a.answer.now _ _ _ rowed c.if-returned-eq0.true octets)
 

@@ -2,7 +2,7 @@
 use mathlib.Core.Path.{sym, ap, ◌∙◌, subst}
 use mathlib.Core.List.{[]}
 use Rattle.sheet.specs.Value.{sheet_in}
-use Rattle.reception.specs.Steps.{Said, Left, Try, attempt_of, work_of, worked_said}
+use Rattle.reception.specs.Steps.{Said, Left, Try, work_of, worked_said}
 use Rattle.rows.specs.Rows.{try_row}
 use Rattle.rows.specs.Promises.{Rowed}
 use Rattle.face.specs.Calls.{of_given}

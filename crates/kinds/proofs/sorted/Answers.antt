@@ -1,7 +1,6 @@
 -- `kinds::sorted` meets its contract: judging finds a fault, or the places by which the message has its values.
 -- Assumes nothing.
 use mathlib.Core.Path.{sym, ap, ◌∙◌}
-use mathlib.Core.Bool.{◌&&◌}
 use mathlib.Core.List.{List}
 use Prim.Native.Nat.{ℕ}
 use native.Mathlib.Nat.{pos_of_ne-zero}
@@ -11,10 +10,8 @@ use lib.ListN.{length}
 use lib.Dec.{T, eqb}
 use Rattle.octets.proofs.Choice.{true-T}
 use Rattle.fields.specs.Header.{first_field}
-use Rattle.fields.specs.Walk.{fields_of, stop_from, whole}
-use Rattle.kinds.specs.Judge.{granted}
-use Rattle.kinds.specs.Found.{slots_numbered}
-use Rattle.kinds.specs.Inner.{Walked, JudgedIs, placed}
+use Rattle.fields.specs.Walk.{stop_from, whole}
+use Rattle.kinds.specs.Inner.{Walked, placed}
 use Rattle.kinds.proofs.Laws.Found.{none_found_lem}
 use Rattle.kinds.proofs.Laws.Kinds.{kindNumbered-some}
 use Rattle.kinds.proofs.Laws.Judged.{placed-some}
@@ -26,35 +23,27 @@ walked_whole : (p : List ℕ) → Walked p → T (whole p)
 unfolding whole
 walked_whole p w = true-T (eqb (stop_from p first_field) (length p)) (eq-eqb (stop_from p first_field) (length p) w.whole)
 
--- what was judged: the slots of the kind, once it is known whether the Result is 1
-judged : (c : goal.After-judge-judged)
-    → let a = c.args in
-    JudgedIs a.packet.now (slots_numbered a.numbers a.kind (eqb a.kind 2 && granted a.packet.now a.numbers.resultid (fields_of a.packet.now))) c.judge-judged.result
-judged c = rw (c.slots_of.ensures, c.is_granted-granted.ensures) at c.judge-judged.ensures
-
 pub returns-then-judged-ne0 : goal.returns-then-judged-ne0
 returns-then-judged-ne0 c =
-    let after = c.before.before.before in
-    let start = after.before.before.before.before in
-    let a = start.args in
-    let fault = after.judge-judged.result.fault in
+    let a = c.args in
+    let fault = c.judge-judged.result.fault in
+    -- what was judged: the slots of the kind, once it is known whether the Result is 1
+    let judged = rw (c.slots_of.ensures, c.is_granted-granted.ensures) at c.judge-judged.ensures in
     rw c.nothing.ensures
     (none_found_lem a.numbers a.packet.now 5 (omega arith)
-    (readAs-faulty a.numbers a.packet.now a.kind start.requires.0 start.requires.1 (walked_whole a.packet.now start.requires.2) fault
-    ((judged after).fault ∙ placed-some fault (pos_of_ne-zero c.if-judged-ne0.true))))
+    (readAs-faulty a.numbers a.packet.now a.kind c.requires.0 c.requires.1 (walked_whole a.packet.now c.requires.2) fault
+    (judged.fault ∙ placed-some fault (pos_of_ne-zero c.if-judged-ne0.true))))
 
 pub returns : goal.returns
 returns c =
-    let else1 = c.before in
-    let after = else1.before.before in
-    let start = after.before.before.before.before in
-    let a = start.args in
+    let a = c.args in
     let p = a.packet.now in
-    let k = kindNumbered-some a.numbers a.kind start.requires.0 start.requires.1 in
-    let reads = readAs-right a.numbers p a.kind start.requires.0 start.requires.1 (walked_whole p start.requires.2) ((judged after).fault ∙ ap placed else1.if-judged-ne0.false) in
-    let w = start.requires.2 in
+    let judged = rw (c.slots_of.ensures, c.is_granted-granted.ensures) at c.judge-judged.ensures in
+    let k = kindNumbered-some a.numbers a.kind c.requires.0 c.requires.1 in
+    let reads = readAs-right a.numbers p a.kind c.requires.0 c.requires.1 (walked_whole p c.requires.2) (judged.fault ∙ ap placed c.if-judged-ne0.false) in
+    let w = c.requires.2 in
     record {
-      is = rw (reads, (judged after).places-1 else1.if-judged-ne0.false, slotsNumbered-granted a.numbers p a.kind start.requires.0 start.requires.1 k.0 k.1);
-      told = rw ((judged after).places-1 else1.if-judged-ne0.false) (sym reads);
-      sorted = λ _. record { above = start.requires.0; below = start.requires.1; least = w.least; most = w.most; inside = (judged after).inside };
+      is = rw (reads, judged.places c.if-judged-ne0.false, slotsNumbered-granted a.numbers p a.kind c.requires.0 c.requires.1 k.0 k.1);
+      told = rw (judged.places c.if-judged-ne0.false) (sym reads);
+      sorted = λ _. record { above = c.requires.0; below = c.requires.1; least = w.least; most = w.most; inside = judged.inside };
     }

@@ -18,7 +18,7 @@ slice_bounds-octets-end c = omega (arith, held-within c.args.held)
 pub slice_bounds-put-end : goal.slice_bounds-put-end
 slice_bounds-put-end c =
     let held = c.args.held in
-    sym (length-take-le _ held.octets-1 (omega (arith, held-within held)))
+    sym (length-take-le _ held.octets (omega (arith, held-within held)))
 
 pub returns : goal.returns
 returns c =

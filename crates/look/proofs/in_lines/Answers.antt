@@ -18,7 +18,7 @@ stepped-in n held end = record { look = record { phase = Lines; numbers = n; hel
 pub returns : goal.returns
 unfolding fed look_as
 returns c =
-    let put = c.before.before.before in
-    let a = put.args in
-    let e = lines-put a.numbers a.held a.piece.now a.out-1.now a.at (omega arith) put.put_lines-kept.result put.put_lines-kept.new.0 put.put_lines-kept.ensures in
+    let put = c.put_lines-kept in
+    let a = c.args in
+    let e = lines-put a.numbers a.held a.piece.now a.out.now a.at (omega arith) put.result put.new.out put.ensures in
     record { done = ap₂ (stepped-in a.numbers) e.1 e.0.1; put = e.0.0 }

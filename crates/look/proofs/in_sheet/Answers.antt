@@ -14,9 +14,10 @@ use Rattle.lines.proofs.Laws.Held.{held_back, held-most}
 use Rattle.look.specs.Steps.{look_as}
 use Rattle.look.proofs.Laws.Steps.{step_held, step_decides, full_rest}
 use Rattle.look.proofs.in_sheet.Goals as goal
+use Rattle.look.proofs.in_sheet.Goals.{After-length_of-room, Else-piece-room}
 
 -- no more is held than decides a sheet
-within : (c : goal.After-length_of-room) → length (held_in c.args.held) ≤ 1024
+within : (c : After-length_of-room) → length (held_in c.args.held) ≤ 1024
 within c = held-most c.args.held (search rules)
 
 pub overflow_sub-room : goal.overflow_sub-room
@@ -27,13 +28,13 @@ unfolding look_as
 returns-then-piece-room c =
     let a = c.args in
     let t = held_in a.held in
-    let fits : length t + length a.piece.now ≤ 1023 = omega (arith, within c.before.before) in
+    let fits : length t + length a.piece.now ≤ 1023 = omega (arith, within (goal.at.returns-then-piece-room c).After-length_of-room) in
     let all : take 1024 (t ++ a.piece.now) ≡ t ++ a.piece.now = take_all 1024 (t ++ a.piece.now) (rw length-append (omega arith)) in
     rw (step_held t a.piece.now (omega arith))
     (record { done = rw (c.with-more.ensures, all); put = sym (put_at-nil _ _) })
 
 -- what is held then is full
-full : (c : goal.Else-piece-room)
+full : (c : Else-piece-room)
     → let a = c.args in
     let text = take 1024 (held_in a.held ++ a.piece.now) in
     (held_in c.with-more.result ≡ text) × (length text ≡ 1024)
@@ -44,7 +45,7 @@ full c =
     (ap held_in c.with-more.ensures ∙ held_back (take 1024 all) (omega arith), l)
 
 -- the rest of the piece
-rest : (c : goal.Else-piece-room)
+rest : (c : Else-piece-room)
     → let piece = c.args.piece.now in
     let room = 1024 - c.length_of-room.result in
     take (length piece - room) (drop room piece) ≡ drop room piece
@@ -55,17 +56,18 @@ rest c =
 
 pub decide-requires : goal.decide-requires
 decide-requires c =
-    let else1 = c.before.before in
-    let piece = else1.args.piece.now in
-    let room = 1024 - else1.length_of-room.result in
+    let else1 = (goal.at.decide-requires c).Else-piece-room in
+    let piece = c.args.piece.now in
+    let room = 1024 - c.length_of-room.result in
     (inl (ap length (full else1).0 ∙ (full else1).1), rw (rest else1, length-drop) (omega arith))
 
 pub returns : goal.returns
 returns c =
-    let else1 = c.before.before.before.before.before in
-    let a = else1.args in
+    let at-end = goal.at.returns c in
+    let else1 = at-end.Else-piece-room in
+    let a = c.args in
     let t = held_in a.held in
     let piece = a.piece.now in
-    let room = 1024 - else1.length_of-room.result in
-    rw (step_decides t piece (omega arith), ← full_rest t piece room (omega (arith, within else1.before.before)))
+    let room = 1024 - c.length_of-room.result in
+    rw (step_decides t piece (omega arith), ← full_rest t piece room (omega (arith, within at-end.After-length_of-room)))
     (rw ((full else1).0, rest else1) at c.decide.ensures)

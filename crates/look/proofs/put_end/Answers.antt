@@ -12,17 +12,16 @@ use Rattle.look.proofs.put_end.Goals as goal
 
 pub returns-in-Sheet : goal.returns-in-Sheet
 unfolding last_text
-returns-in-Sheet c = rw (state-sheet c.args.look c.enum_told-1.given.1) (sym (put_at-nil _ _), omega arith)
+returns-in-Sheet c = rw (state-sheet c.args.look c.in-Sheet.is) (sym (put_at-nil _ _), omega arith)
 
 pub returns-in-Lines : goal.returns-in-Lines
 unfolding last_text
 returns-in-Lines c =
-    let told = c.before.before.before.before in
-    let a = told.args in
+    let a = c.args in
     let line = held_in a.look.held in
-    rw (state-lines a.look told.enum_told-in-Lines-1.given.1)
-    (rw (fitting-whole (line_room line) (length a.out-1.now) a.at (last_line a.look.numbers line) (omega arith)) at c.put_last.ensures)
+    rw (state-lines a.look c.in-Lines.is)
+    (rw (fitting-whole (line_room line) (length a.out.now) a.at (last_line a.look.numbers line) (omega arith)) at c.put_last.ensures)
 
 pub returns-in-Refused : goal.returns-in-Refused
 unfolding last_text
-returns-in-Refused c = rw (state-refused c.args.look c.enum_told-in-Refused-1.given.1) (sym (put_at-nil _ _), omega arith)
+returns-in-Refused c = rw (state-refused c.args.look c.in-Refused.is) (sym (put_at-nil _ _), omega arith)

@@ -8,9 +8,10 @@ use Rattle.look.specs.Steps.{state_of, end_of}
 use Rattle.mcvlook.specs.Gathered.{Gathers}
 use Rattle.mcvlook.proofs.Laws.{gathers-end, end-not-refused}
 use Rattle.mcvlook.proofs.gather_last.Goals as goal
+use Rattle.mcvlook.proofs.gather_last.Goals.{In-Printed}
 
 -- where the octets are told, they are put behind what is gathered
-written : (c : goal.In-Printed)
+written : (c : In-Printed)
     → let a = c.args in
     let now = c.end.new.1.0 in
     Gathers (end_of (state_of a.look)) a.out-1.now a.gathered (a.gathered + c.octets-1.given.0.0) (put_mid a.gathered (length a.out-1.now - a.gathered) a.out-1.now now)

@@ -1,7 +1,6 @@
 -- `packet::read_lent` meets its contract: the numbers are checked first, then the packet under them.
 -- Assumes nothing.
 use mathlib.Core.Path.{◌∙◌, sym}
-use borrow.Author.Tests.{not-true, not-false}
 use Rattle.kinds.specs.Reading.{read_of}
 use Rattle.packet.proofs.read_lent.Goals as goal
 
@@ -14,6 +13,4 @@ told-requires c = c.found_lent.ensures.sorted
 
 pub returns : goal.returns
 unfolding read_of
-returns c =
-    let else1 = c.before.before in
-    rw (c.told.ensures, c.found_lent.ensures.told, sym else1.are_valid.ensures ∙ else1.if-not-are_valid.false)
+returns c = rw (c.told.ensures, c.found_lent.ensures.told, sym c.are_valid.ensures ∙ c.if-not-are_valid.false)

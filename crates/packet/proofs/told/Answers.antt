@@ -10,8 +10,7 @@ head_of-head-requires c = (c.requires c.if-found-ne0.false).least
 
 pub message_of-requires : goal.message_of-requires
 message_of-requires c =
-    let else1 = c.before.before in
-    let sorted = else1.requires else1.if-found-ne0.false in
+    let sorted = c.requires c.if-found-ne0.false in
     (sorted.above, sorted.below, sorted.most, sorted.inside)
 
 pub returns : goal.returns

@@ -118,6 +118,10 @@ pub event-unheld : (row : List ℕ) → event_in row ≡ none → event_held row
 unfolding event_held
 event-unheld row e = held-nothing (octets_at _ row) (event_in row) e
 
+-- and so of any other count of numbers
+pub event_uncounted : (row : List ℕ) → (length row ≡ 4 → ⊥) → event_held row ≡ none
+event_uncounted row n = event-unheld row (event-miscounted row n)
+
 -- none where the stream fits no octet, or the sender
 pub stream-unheld : (row : List ℕ) → 256 ≤ get_or row 1 0 → event_held row ≡ none
 unfolding event_held octets_at

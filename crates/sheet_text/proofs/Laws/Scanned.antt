@@ -405,7 +405,7 @@ module _ {t numbers : List ℕ} {users : List (List ℕ)} {at k : ℕ} (i : Scan
 -- the User IDs beside a refusal
 users-by : (o : Outcome) → ((reading_of o).refusal.number ≡ 0 → ⊥) → users_from o ≡ users_of []
 unfolding reading_of users_from
-users-by (reads es) h = absurd (h refl)
+users-by (reads _) h = absurd (h refl)
 users-by (refused k) h = refl
 
 -- a refused sheet has no User IDs

@@ -1,5 +1,5 @@
 -- Laws of the event table: what each row does to a record, bit by bit, and what its answer says. Assumes nothing.
-use mathlib.Core.Path.{◌≡◌, refl}
+use mathlib.Core.Path.{◌≡◌, refl, sym}
 use mathlib.Core.Logic.{◌⊎◌, inl, inr, ⊎_elim, ◌↔◌}
 use mathlib.Core.Bool.{Bool, true, false, not, ◌&&◌, ◌||◌, and-true, and-false}
 use mathlib.Core.Option.{Option, none, some}
@@ -200,7 +200,7 @@ module _ (q : Rules) (s : ℕ) (x : Record) where
   release-row =
       pick-cases (Row Release) (is Free x) _ _
       (λ t. kept Release discarded _ _ (λ e. cc) (λ l r. rw (legal-none 0 t refl l r)))
-      (λ f. record { discards = λ e. cc; not-ending = λ e. cc; becomes-legal = λ l u. tt; bits = λ l r. rw (watches-none, and-false) })
+      (λ f. record { discards = λ e. cc; not-ending = λ e. cc; becomes-legal = λ l u. tt; bits = λ l r. rw watches-none (sym (and-false (watches x.receivers r))) })
 
   -- the table
   rule-row : (w : What) → Row w (rule_for q s x w)

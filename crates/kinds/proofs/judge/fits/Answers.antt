@@ -1,8 +1,7 @@
 -- `kinds::judge::fits` meets its contract: form by form, since a right field's value ends in the packet (`right-inside`). Assumes nothing.
-use Prim.Native.Nat.{◌+◌, ◌≤◌}
+use Prim.Native.Nat.{◌+◌}
 use native.Mathlib.Nat.{add_assoc, add-sub_cancel_left}
 use native.Mathlib.Omega.{arith}
-use lib.ListN.{length, get_or}
 use borrow.Author.Tests.{eq-eqb, ne_eqb}
 use Rattle.octets.proofs.Big.{big_at-two}
 use Rattle.fields.specs.Walk.{field_at, value_of}

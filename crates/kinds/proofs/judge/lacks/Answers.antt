@@ -1,7 +1,6 @@
 -- `kinds::judge::lacks` meets its contract. The invariant: a slot that must be filled is open exactly if one from i on is.
 -- Assumes nothing.
 use mathlib.Core.Path.{◌≡◌, refl, sym, ◌∙◌}
-use Prim.Native.Nat.{◌-◌}
 use native.Mathlib.Omega.{arith}
 use lib.ListN.{length}
 use borrow.Author.Rules.{rules}

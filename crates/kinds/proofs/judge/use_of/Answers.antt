@@ -1,7 +1,6 @@
 -- `kinds::judge::use_of` meets its contract. The invariant: the slots from i on, behind i slots of which one is known to have the ID
 -- or none, give the answer of them all. Assumes nothing.
 use mathlib.Core.Path.{◌≡◌, sym, ◌∙◌}
-use Prim.Native.Nat.{◌-◌}
 use native.Mathlib.Omega.{arith}
 use lib.ListN.{length}
 use borrow.Author.Rules.{rules}

@@ -10,19 +10,20 @@ use Rattle.octets.specs.Buffer.{put_at}
 use Rattle.lines.specs.Pieces.{held_in}
 use Rattle.lines.proofs.Laws.Held.{held_with}
 use Rattle.lines.proofs.held.with.Goals as goal
+use Rattle.lines.proofs.held.with.Goals.{After-octets-1}
 
 -- no more is taken than the octets there are
-fits : (c : goal.After-octets-1) → c.least-n.result ≤ length c.args.held.octets-1
+fits : (c : After-octets-1) → c.least-n.result ≤ length c.args.held.octets
 unfolding held_in
 fits c =
     let held = c.args.held in
-    omega (arith, length-take held.len held.octets-1)
+    omega (arith, length-take held.len held.octets)
 
 pub slice_bounds-old-end : goal.slice_bounds-old-end
 slice_bounds-old-end c = fits c
 
 pub slice_bounds-put_octets-end-2 : goal.slice_bounds-put_octets-end-2
-slice_bounds-put_octets-end-2 c = sym (length-take-le _ _ (fits c.before))
+slice_bounds-put_octets-end-2 c = sym (length-take-le _ _ (fits (goal.at.slice_bounds-put_octets-end-2 c).After-octets-1))
 
 pub slice_bounds-put_octets-end-4 : goal.slice_bounds-put_octets-end-4
 slice_bounds-put_octets-end-4 c =
@@ -37,5 +38,5 @@ returns c =
     let before = put.before.before.before.before in
     let first = before.least-n in
     let a = before.args in
-    held_with a.held a.more.now (min a.most 1024) first.result second.result put.put_octets-2.new.0 (omega arith) (omega arith) (omega arith)
+    held_with a.held a.more.now (min a.most 1024) first.result second.result put.put_octets-2.new.s (omega arith) (omega arith) (omega arith)
     (put.put_octets-2.ensures ∙ ap (λ (s : List ℕ). put_at s first.result (take second.result a.more.now)) before.put_octets.ensures)

@@ -13,24 +13,19 @@ pub returns-then-answer-eq0 : goal.returns-then-answer-eq0
 unfolding told after over
 returns-then-answer-eq0 c a is =
     let s = c.args in
-    rw (sends-nothing s.answer.now a is s.name.now s.out-1.now (sheet_from s.numbers.now) c.if-answer-eq0.true) (refl, refl)
+    rw (sends-nothing s.answer.now a is s.name.now s.out.now (sheet_from s.numbers.now) c.if-answer-eq0.true) (refl, refl)
 
 pub bounds-numbers-0 : goal.bounds-numbers-0
 bounds-numbers-0 c = omega (arith, fitting-counted _ c.requires.0)
 
 pub slice_bounds-write_by-end : goal.slice_bounds-write_by-end
-slice_bounds-write_by-end c =
-    let start = c.before.before.before.before.before.before.before.before.before in
-    sym (length-take-le 19 start.args.numbers.now (omega (arith, fitting-counted _ start.requires.0)))
+slice_bounds-write_by-end c = sym (length-take-le 19 c.args.numbers.now (omega (arith, fitting-counted _ c.requires.0)))
 
 pub returns : goal.returns
 unfolding sheet_from sheet_by
 returns c a is =
-    let put = c.before.before in
-    let made = put.before.before.before.before in
-    let start = made.before.before.before.before.before.before.before.before in
-    let s = start.args in
+    let s = c.args in
     let ns = s.numbers.now in
-    let all = take_all 19 ns (omega (arith, fitting-counted ns start.requires.0)) in
-    rw (sends-message s.answer.now a is s.name.now s.out-1.now ns start.requires.0 made.if-answer-eq0.false)
-    (rw (all, made.message_of-message.ensures) at put.write_by.ensures)
+    let all = take_all 19 ns (omega (arith, fitting-counted ns c.requires.0)) in
+    rw (sends-message s.answer.now a is s.name.now s.out.now ns c.requires.0 c.if-answer-eq0.false)
+    (rw (all, c.message_of-message.ensures) at c.write_by.ensures)

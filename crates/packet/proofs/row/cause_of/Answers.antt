@@ -6,9 +6,7 @@ use Rattle.packet.specs.Row.{no_number}
 use Rattle.packet.proofs.row.cause_of.Goals as goal
 
 pub returns-in-Granted : goal.returns-in-Granted
-returns-in-Granted c = rw c.enum_told-1.given.1 (refl, tt)
+returns-in-Granted c = rw c.in-Granted.is (refl, tt)
 
 pub returns-in-Rejected : goal.returns-in-Rejected
-returns-in-Rejected c =
-    let cause = c.verdict-1.given in
-    rw cause.1 (refl, rw (ne_eqb cause.0.0 no_number (λ e. omega arith)) tt)
+returns-in-Rejected c = rw c.in-Rejected.is (refl, rw (ne_eqb c.in-Rejected.cause no_number (λ e. omega arith)) tt)

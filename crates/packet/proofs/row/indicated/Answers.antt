@@ -6,9 +6,7 @@ use Rattle.packet.specs.Row.{no_number}
 use Rattle.packet.proofs.row.indicated.Goals as goal
 
 pub returns-in-Absent : goal.returns-in-Absent
-returns-in-Absent c = rw c.enum_told-1.given.1 (refl, tt)
+returns-in-Absent c = rw c.in-Absent.is (refl, tt)
 
 pub returns-in-Given : goal.returns-in-Given
-returns-in-Given c =
-    let number = c.indicator-1.given in
-    rw number.1 (refl, rw (ne_eqb number.0.0 no_number (λ e. omega arith)) tt)
+returns-in-Given c = rw c.in-Given.is (refl, rw (ne_eqb c.in-Given.number no_number (λ e. omega arith)) tt)

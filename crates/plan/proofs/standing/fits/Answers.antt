@@ -1,10 +1,12 @@
 -- `plan::standing::fits` meets its contract: kind by kind, the definition's tests (`fits-request` and so on). Assumes nothing.
 use mathlib.Core.Path.{sym, ◌∙◌}
 use mathlib.Core.Bool.{and_assoc}
-use mathlib.Core.Logic.{inl, inr, ⊎_elim}
+use mathlib.Core.Logic.{⊎_elim}
 use Prim.Native.Nat.{ℕ}
+use native.Mathlib.Omega.{arith}
 use lib.ListN.{get_or}
 use lib.Dec.{eqb, ltb}
+use Rattle.octets.proofs.Choice.{NoneFrom}
 use Rattle.plan.specs.Inner.{indicator_fits, cause_fits}
 use Rattle.plan.proofs.Laws.Rows.{fits-request, fits-response, fits-end-request, fits-end-response, fits-end, fits-transmission-response, fits-ack, fits-none}
 use Rattle.plan.proofs.standing.fits.Goals as goal
@@ -30,4 +32,8 @@ pub returns-in-7 : goal.returns-in-7
 returns-in-7 c = sym (fits-ack _ c.in-7.is)
 
 pub returns-in_default : goal.returns-in_default
-returns-in_default c = let d = c.in_default in ?
+returns-in_default c =
+    let kind = get_or c.args.message.now 0 0 in
+    let none : NoneFrom 1 7 kind =
+    (((((((tt, λ e. grind arith), λ e. grind arith), λ e. grind arith), λ e. grind arith), λ e. grind arith), λ e. grind arith), λ e. grind arith) in
+    sym (fits-none _ none)

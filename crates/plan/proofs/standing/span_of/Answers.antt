@@ -1,5 +1,7 @@
 -- `plan::standing::span_of` meets its contract: each arm is its kind's entry of the table. Assumes nothing.
 use mathlib.Core.Path.{sym, ◌∙◌}
+use native.Mathlib.Omega.{arith}
+use Rattle.octets.proofs.Choice.{NoneFrom}
 use Rattle.plan.specs.Inner.{span_for}
 use Rattle.plan.proofs.Laws.Rows.{span_rest}
 use Rattle.plan.proofs.standing.span_of.Goals as goal
@@ -30,5 +32,6 @@ returns-in-7 c = rw c.in-7.is c.spanning-in-7.ensures
 
 pub returns-in_default : goal.returns-in_default
 returns-in_default c =
-    let d = c.in_default in
-    c.spanning-in_default.ensures ∙ sym (span_rest c.args.kind (((((tt, d.not-1), d.not-2), d.not-3), d.not-4), d.not-5) d.not-7)
+    let kind = c.args.kind in
+    let other : NoneFrom 1 5 kind = (((((tt, λ e. omega arith), λ e. omega arith), λ e. omega arith), λ e. omega arith), λ e. omega arith) in
+    c.spanning-in_default.ensures ∙ sym (span_rest kind other (λ e. omega arith))

@@ -8,11 +8,8 @@ use lib.ListN.{length, get_or}
 use Rattle.streams.specs.declared.What.{What}
 use Rattle.rows.specs.Rows.{what_row, event_row, event_on}
 use Rattle.rows.specs.Held.{event_held}
-use Rattle.rows.proofs.Laws.Events.{likely_in, what-length, event-known, event-none, event-miscounted, what-stream, event-unheld, stream-unheld, sender_unheld, event-held, four}
+use Rattle.rows.proofs.Laws.Events.{likely_in, what-length, event-known, event-none, what-stream, event-unheld, stream-unheld, sender_unheld, event-held, four}
 use Rattle.rows.proofs.event.event_in.Goals as goal
-
-pub returns-then-row-ne-EVENT : goal.returns-then-row-ne-EVENT
-returns-then-row-ne-EVENT c = let row = c.args.row.now in sym (event-unheld row (event-miscounted row (λ e. omega (arith, e, c.if-row-ne-EVENT.true))))
 
 pub returns-then-stream-ge-OCTET_END : goal.returns-then-stream-ge-OCTET_END
 returns-then-stream-ge-OCTET_END c = sym (stream-unheld c.args.row.now c.if-stream-ge-OCTET_END.true)
@@ -49,7 +46,7 @@ returns c =
     let likely = ap (event_on (get_or row 1 0)) c.likely-what.ensures in
     let long = ap length own.ensures ∙ what-length (get_or row 1 0) what in
     let stream = ap (λ (l : List ℕ). get_or l 1 0) own.ensures ∙ what-stream (get_or row 1 0) what in
-    let counted = c.if-row-ne-EVENT.false in
+    let counted : length row ≡ 4 = omega arith in
     let whole = four own.result row long counted c.if-own-row.false stream c.if-own-by.false c.if-own-row-2.false in
     sym (event-held row c.if-stream-ge-OCTET_END.false c.if-by-ge-OCTET_END.false
     ∙ event-known row (sym (own.ensures ∙ ap event_row likely) ∙ whole)

@@ -1,7 +1,7 @@
 -- `rows::records::are_records` meets its contract. The invariant: the octets before the place are records, so all are where those from it on are.
 -- Assumes nothing.
 use mathlib.Core.Path.{refl, sym, ◌∙◌}
-use Prim.Native.Nat.{◌-◌, ◌≤◌}
+use Prim.Native.Nat.{◌≤◌}
 use native.Mathlib.Omega.{arith}
 use lib.ListN.{length, drop_of_length-le}
 use Rattle.rows.specs.Rows.{records_from}

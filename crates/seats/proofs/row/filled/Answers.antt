@@ -1,7 +1,6 @@
 -- `seats::row::filled` meets its contract. The invariant: n and those among the octets from i on are all.
 -- Assumes nothing.
 use mathlib.Core.Path.{ap}
-use Prim.Native.Nat.{◌-◌}
 use native.Mathlib.Omega.{arith}
 use lib.ListN.{drop_of_length-le}
 use Rattle.seats.specs.Inner.{filled}

@@ -1,7 +1,6 @@
 -- `seats::row::is_same_row` meets its contract: rows whose first octets differ are not the same, and the first 60 are all.
 -- Assumes nothing.
 use mathlib.Core.Path.{sym, ◌∙◌}
-use borrow.Author.Tests.{not-true}
 use native.Mathlib.Omega.{arith}
 use lib.Seq.{take_all}
 use Rattle.sheet.proofs.Laws.Rows.{same-take-false}

@@ -1,7 +1,7 @@
 -- `seats::user::name_length` meets its contract. The invariant: the name is i octets and those of the name from i on.
 -- Assumes nothing.
 use mathlib.Core.Path.{ap}
-use Prim.Native.Nat.{ℕ, ◌-◌}
+use Prim.Native.Nat.{ℕ}
 use mathlib.Core.List.{List}
 use native.Mathlib.Omega.{arith}
 use lib.ListN.{length}

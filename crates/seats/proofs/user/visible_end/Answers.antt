@@ -1,10 +1,8 @@
 -- `seats::user::visible_end` meets its contract: what is passed and the visible octets still ahead end where they did at first.
 -- Assumes nothing.
 use mathlib.Core.Path.{sym, ap, ◌∙◌}
-use Prim.Native.Nat.{◌-◌}
 use native.Mathlib.Omega.{arith}
 use lib.ListN.{length}
-use borrow.Author.Tests.{not-true, not-false}
 use Rattle.octets.proofs.Choice.{front-drop-true, front-drop-false, front-drop-end}
 use Rattle.sheet.specs.Judge.{visible}
 use Rattle.seats.proofs.user.visible_end.Goals as goal

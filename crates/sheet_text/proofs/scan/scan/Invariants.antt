@@ -1,4 +1,5 @@
 -- `sheet_text::scan::scan` meets its contract: after each turn the arrays hold what some good lines are laid out to, and the
+-- outcome from there is the text's own.
 use Prim.Native.Nat.{◌-◌}
 use Rattle.sheet_text.proofs.Laws.Scanned.{Scanned}
 use Rattle.sheet_text.proofs.scan.scan.Given as goal

@@ -36,6 +36,6 @@ returns c =
     let room = simp length-append at a.requires in
     let o = c.put_octets.ensures in
     let p = c.put-end.ensures in (
-      rw (p.0, o, p.1) (set-put_at-then a.args.out-1.now a.args.at a.args.name.now (decimal a.args.n) 10 (omega arith)),
+      rw (p.0, o, p.1) (set-put_at-then a.args.out.now a.args.at a.args.name.now (decimal a.args.n) 10 (omega arith)),
       simp length-append (omega arith),
     )

@@ -12,7 +12,7 @@ use Rattle.shown.proofs.line.put.Goals as goal
 pub returns-then-behind-line : goal.returns-then-behind-line
 returns-then-behind-line c =
     let a = c.args in
-    rw (fitting-none (line_room a.line.now) (length a.out-1.now) a.at (line_by a.numbers a.line.now) (omega arith)) (sym (put_at-nil _ _), omega arith)
+    rw (fitting-none (line_room a.line.now) (length a.out.now) a.at (line_by a.numbers a.line.now) (omega arith)) (sym (put_at-nil _ _), omega arith)
 
 pub slice_bounds-octets-end : goal.slice_bounds-octets-end
 slice_bounds-octets-end c = packet-le _ c.packet_in-packet.result c.packet_in-packet.ensures
@@ -44,7 +44,7 @@ returns c =
     let packet = read.before.before.before in
     let a = packet.args in
     rw (
-      fitting-whole (line_room a.line.now) (length a.out-1.now) a.at (line_by a.numbers a.line.now) (omega arith),
+      fitting-whole (line_room a.line.now) (length a.out.now) a.at (line_by a.numbers a.line.now) (omega arith),
       line_by-packet a.numbers a.line.now packet.packet_in-packet.result packet.packet_in-packet.ensures,
       ← read.read_by-reading.ensures,
     )

@@ -11,7 +11,7 @@ pub returns-then-behind-length_of : goal.returns-then-behind-length_of
 returns-then-behind-length_of c =
     let a = c.args in
     let line = sheet_line a.line in
-    rw (fitting-none (length line) (length a.out-1.now) a.at line (omega (arith, length-sheet_line a.line))) (sym (put_at-nil _ _), omega arith)
+    rw (fitting-none (length line) (length a.out.now) a.at line (omega (arith, length-sheet_line a.line))) (sym (put_at-nil _ _), omega arith)
 
 pub put_line-requires : goal.put_line-requires
 put_line-requires c = simp length-append (omega arith)
@@ -20,5 +20,5 @@ pub returns : goal.returns
 returns c =
     let a = c.args in
     let line = sheet_line a.line in
-    rw (fitting-whole (length line) (length a.out-1.now) a.at line (omega (arith, length-sheet_line a.line)))
+    rw (fitting-whole (length line) (length a.out.now) a.at line (omega (arith, length-sheet_line a.line)))
     (unfold sheet_line number_line in c.put_line.ensures)

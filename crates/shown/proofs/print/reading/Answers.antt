@@ -15,13 +15,13 @@ pub returns-then-out-length_of : goal.returns-then-out-length_of
 returns-then-out-length_of c =
     let start = c.before.before.before.before in
     let text = text_of start.args.packet.now (read_said start.args.reading) in
-    let short : length start.args.out-1.now < length text = omega arith in
-    rw (lt-leb (length text) (length start.args.out-1.now) short) (refl, refl)
+    let short : length start.args.out.now < length text = omega arith in
+    rw (lt-leb (length text) (length start.args.out.now) short) (refl, refl)
 
 pub returns : goal.returns
 returns c =
     let start = c.before.before.before.before.before.before.before.before in
-    let out = start.args.out-1.now in
+    let out = start.args.out.now in
     let text = text_of start.args.packet.now (read_said start.args.reading) in
     let put = c.put.ensures in
     let room : length text ≤ length out = omega arith in

@@ -15,4 +15,4 @@ returns-in-Read c =
 pub returns-in-Refused : goal.returns-in-Refused
 unfolding text_of number_line
 returns-in-Refused c =
-    rw c.reading-in-Refused-1.given.1 (simp length-append (omega arith))
+    rw c.in-Refused.is (simp length-append (omega arith))

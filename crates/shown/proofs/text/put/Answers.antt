@@ -12,7 +12,7 @@ put_ten-requires c =
 
 pub put_line-requires : goal.put_line-requires
 unfolding text_of number_line
-put_line-requires c = rw c.reading-in-Refused-1.given.1 at c.requires
+put_line-requires c = rw c.in-Refused.is at c.requires
 
 pub returns-in-Read : goal.returns-in-Read
 returns-in-Read c =
@@ -23,4 +23,4 @@ returns-in-Read c =
 
 pub returns-in-Refused : goal.returns-in-Refused
 unfolding text_of number_line
-returns-in-Refused c = rw c.reading-in-Refused-1.given.1 c.put_line.ensures
+returns-in-Refused c = rw c.in-Refused.is c.put_line.ensures

@@ -27,4 +27,4 @@ returns c =
     let start = c.before.before.before.before.before.before in
     let put = c.put-end.ensures in
     let line = length-ten_line start.args.packet.now start.args.row in
-    (rw (put.0, put.1) (set-put_at start.args.out-1.now start.args.at (values_from start.args.packet.now start.args.row 0) 10 (omega arith)), omega arith)
+    (rw (put.0, put.1) (set-put_at start.args.out.now start.args.at (values_from start.args.packet.now start.args.row 0) 10 (omega arith)), omega arith)

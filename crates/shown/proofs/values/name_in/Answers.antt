@@ -7,4 +7,4 @@ returns c =
     let args = c.args in
     let from = c.least-from in
     let n = c.least in
-    part-min args.packet.now args.at args.len from.result-1 n.result-1 from.ensures n.ensures
+    part-min args.packet.now args.at args.len from.result n.result from.ensures n.ensures

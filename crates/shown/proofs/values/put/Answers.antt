@@ -8,14 +8,15 @@ use Rattle.shown.specs.Inner.{values_from}
 use Rattle.shown.specs.Promises.{Put}
 use Rattle.shown.proofs.Laws.Values.{from-entry, from-none}
 use Rattle.shown.proofs.values.put.Goals as goal
+use Rattle.shown.proofs.values.put.Goals.{After-put_entry-end-10, Start}
 
-are-ten : (start : goal.Start) → length start.args.row ≡ 12
+are-ten : (start : Start) → length start.args.row ≡ 12
 are-ten start = omega arith
 
 -- all of them are put
-all : (c10 : goal.After-put_entry-end-10)
+all : (c10 : After-put_entry-end-10)
     → let a = c10.args in
-    Put (values_from a.packet.now a.row 0) a.out-1.now a.at c10.put_entry-end-10.result c10.put_entry-end-10.new.0
+    Put (values_from a.packet.now a.row 0) a.out.now a.at c10.put_entry-end-10.result c10.put_entry-end-10.new.0
 all c10 =
     let c9 = c10.before.before.before.before in
     let c8 = c9.before.before.before.before in

@@ -10,28 +10,29 @@ use Rattle.octets.proofs.Buffer.{length-put_at, put_both}
 use Rattle.shown.specs.Inner.{entry_text, values_from}
 use Rattle.shown.proofs.Laws.Values.{text_at, entry_text-at, valuesFrom-next}
 use Rattle.shown.proofs.values.put_entry.Goals as goal
+use Rattle.shown.proofs.values.put_entry.Goals.{Start}
 
 pub slice_bounds-put_octets-end : goal.slice_bounds-put_octets-end
 slice_bounds-put_octets-end c =
     let a = c.args in
-    sym (length-take-le a.len a.t3 (omega arith))
+    sym (length-take-le a.len a.name (omega arith))
 
 -- the name has so many octets, and the value's text stands behind it
-module _ (c : goal.Start) where
+module _ (c : Start) where
   abbrev name : List ℕ
-  name = take c.args.len c.args.t3
+  name = take c.args.len c.args.name
 
   abbrev text : List ℕ
   text = text_at c.args.packet.now c.args.row c.args.k
 
   named : length name ≡ c.args.len
-  named = length-take-le c.args.len c.args.t3 (omega arith)
+  named = length-take-le c.args.len c.args.name (omega arith)
 
   entry : entry_text c.args.packet.now c.args.row c.args.k ≡ name ++ text
   entry = entry_text-at c.args.packet.now c.args.row c.args.k (omega arith) (omega arith) ∙ rw c.requires.2
 
   -- there is room for both and for the values behind them
-  room : c.args.at + c.args.len + length text + length (values_from c.args.packet.now c.args.row (c.args.k + 1)) ≤ length c.args.out-1.now
+  room : c.args.at + c.args.len + length text + length (values_from c.args.packet.now c.args.row (c.args.k + 1)) ≤ length c.args.out.now
   room =
       let next = valuesFrom-next c.args.packet.now c.args.row c.args.k (omega arith) (omega arith) in
       let both : length (values_from c.args.packet.now c.args.row c.args.k)
@@ -50,6 +51,6 @@ returns c =
     let a = start.args in
     let value = rw c.value_in.ensures at c.put_value.ensures in
     let both =
-    put_both a.out-1.now a.at (name start) (text start) _ (a.at + a.len) _ _
+    put_both a.out.now a.at (name start) (text start) _ (a.at + a.len) _ _
     c.put_octets.ensures (omega (arith, named start)) value.0 value.1 (omega (arith, room start)) in
     (rw (entry start) both, rw (both.0, length-put_at) (omega (arith, room start, value.1)))

@@ -8,25 +8,25 @@ use Rattle.shown.proofs.values.put_value.Goals as goal
 pub bounds-out-at : goal.bounds-out-at
 unfolding value_text
 bounds-out-at c =
-    let room = rw c.enum_told-1.given.1 at c.requires in
+    let room = rw c.in-Absent.is at c.requires in
     omega arith
 
 pub put-requires : goal.put-requires
 unfolding value_text
-put-requires c = rw c.enum_told-in-Given-1.given.1 at c.requires
+put-requires c = rw c.in-Given.is at c.requires
 
 pub returns-in-Absent : goal.returns-in-Absent
 unfolding value_text
 returns-in-Absent c =
     let start = c.before.before.before.before in
-    rw c.enum_told-1.given.1 (sym (put_at-one start.args.out-1.now start.args.at 45), refl)
+    rw c.in-Absent.is (sym (put_at-one start.args.out.now start.args.at 45), refl)
 
 pub returns-in-Given : goal.returns-in-Given
 unfolding value_text
-returns-in-Given c = rw c.enum_told-in-Given-1.given.1 c.put.ensures
+returns-in-Given c = rw c.in-Given.is c.put.ensures
 
 pub returns-in-Named : goal.returns-in-Named
 unfolding value_text
 returns-in-Named c =
     let name = c.before.before.before.before in
-    rw (name.enum_told-in-Named-1.given.1, ← name.name_in-name.ensures) (c.put_octets.ensures, refl)
+    rw (name.in-Named.is, ← name.name_in-name.ensures) (c.put_octets.ensures, refl)

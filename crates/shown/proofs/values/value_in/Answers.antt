@@ -7,19 +7,19 @@ use Rattle.shown.proofs.values.value_in.Goals as goal
 pub returns-then-k-lt-USER : goal.returns-then-k-lt-USER
 returns-then-k-lt-USER c =
     let a = c.args in
-    c.given.ensures ∙ sym (ten-front a.t1 (omega arith) a.k (omega arith))
+    c.given.ensures ∙ sym (ten-front a.row (omega arith) a.k (omega arith))
 
 pub returns-then-k-eq-USER : goal.returns-then-k-eq-USER
 returns-then-k-eq-USER c =
     let a = c.args in
-    c.name.ensures ∙ sym (ten-behind a.t1 (omega arith) a.k 0 (omega arith))
+    c.name.ensures ∙ sym (ten-behind a.row (omega arith) a.k 0 (omega arith))
 
 pub returns-then-k-eq-NAME : goal.returns-then-k-eq-NAME
 returns-then-k-eq-NAME c =
     let a = c.args in
-    c.name-then-k-eq-NAME.ensures ∙ sym (ten-behind a.t1 (omega arith) a.k 1 (omega arith))
+    c.name-then-k-eq-NAME.ensures ∙ sym (ten-behind a.row (omega arith) a.k 1 (omega arith))
 
 pub returns : goal.returns
 returns c =
     let a = c.args in
-    c.number.ensures ∙ sym (ten-number a.t1 (omega arith) a.k (omega arith) (omega arith))
+    c.number.ensures ∙ sym (ten-number a.row (omega arith) a.k (omega arith) (omega arith))

@@ -8,11 +8,11 @@ use Rattle.shown.proofs.values.value_length.Goals as goal
 
 pub returns-in-Absent : goal.returns-in-Absent
 unfolding value_text
-returns-in-Absent c = rw c.enum_told-1.given.1 (refl, omega arith)
+returns-in-Absent c = rw c.in-Absent.is (refl, omega arith)
 
 pub returns-in-Given : goal.returns-in-Given
 unfolding value_text
-returns-in-Given c = rw c.enum_told-in-Given-1.given.1 (c.length_of.ensures.0, omega arith)
+returns-in-Given c = rw c.in-Given.is (c.length_of.ensures.0, omega arith)
 
 pub returns-in-Named : goal.returns-in-Named
 unfolding value_text
@@ -20,4 +20,4 @@ returns-in-Named c =
     let start = c.before.before.before.before in
     let value = start.args.value in
     let n = min-le_left value.len (length (drop value.n start.args.packet.now)) in
-    rw c.enum_told-in-Named-1.given.1 (ap length c.name_in.ensures, rw (c.name_in.ensures, length-take) (omega arith))
+    rw c.in-Named.is (ap length c.name_in.ensures, rw (c.name_in.ensures, length-take) (omega arith))
