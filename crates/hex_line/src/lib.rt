@@ -1,5 +1,6 @@
 // A packet on a line, in hex (document 01, "Bench program").
 #![tactic(auto)]
+
 ghost use Rattle.std.specs.Prelude.{◌≡◌, ◌<◌, T};
 ghost use Rattle.std.proofs.Math.Option.{none};
 ghost use Rattle.octets.specs.Hex.{hex_value, hex_digit};

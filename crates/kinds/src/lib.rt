@@ -1,6 +1,7 @@
 // Which of the seven kinds of message a packet is, and where its fields stand (document 01, "Packet", and "Refusals": 1, 2, 3, 4 and 5, in that
 // order).
 #![tactic(auto)]
+
 pub mod codes;
 mod judge;
 mod kind;

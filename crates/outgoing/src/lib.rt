@@ -1,5 +1,6 @@
 // Which packet an answer sends (document 01, "Stream record").
 #![tactic(auto)]
+
 mod answer;
 
 ghost use Rattle.sheet.specs.Value.{sheet_in};

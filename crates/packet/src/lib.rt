@@ -1,5 +1,6 @@
 // RTCP APP packets of MCVideo (document 01, "Packet"; RFC 3550, 6.7), read as one of seven messages.
 #![tactic(auto)]
+
 pub mod row;
 mod values;
 

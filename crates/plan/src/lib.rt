@@ -1,6 +1,7 @@
 // The packet that a message is written as, before an octet of it is put: the header's values and the fields, or why there is none (document 01,
 // "Packet"; RFC 3550, 6.7).
 #![tactic(auto)]
+
 mod messages;
 mod names;
 pub mod sizes;

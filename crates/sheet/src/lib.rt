@@ -1,5 +1,6 @@
 // The call sheet as a value (document 01, "Call sheet"): what each line may say.
 #![tactic(auto)]
+
 mod line;
 pub mod number;
 pub mod numbers;

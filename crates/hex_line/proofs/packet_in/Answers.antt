@@ -1,7 +1,6 @@
 -- `hex_line::packet_in` meets its contract. The invariant: `right` tells whether the first 2 i octets of the line are digits, and the
 -- octets are what they make if so. Assumes nothing.
 use mathlib.Core.Path.{sym, ap, ◌∙◌}
-use Prim.Native.Nat.{◌-◌}
 use native.Mathlib.Omega.{arith}
 use Rattle.hex_line.specs.Line.{packet_as}
 use Rattle.hex_line.proofs.Laws.Pairs.{pairs_start, pairs_more, pairs-none, pairs_end, packet_in-none}

@@ -1,10 +1,9 @@
 -- `sheet_line::digits` meets its contract: the number is the digits' so far, as far as CAP; with those still ahead it makes the whole.
 -- Assumes nothing.
 use mathlib.Core.Path.{refl, sym, ap, ◌∙◌}
-use Prim.Native.Nat.{ℕ, ◌+◌, ◌-◌, ◌*◌}
+use Prim.Native.Nat.{◌+◌, ◌-◌, ◌*◌}
 use native.Mathlib.Omega.{arith}
 use lib.ListN.{length, get_or}
-use lib.Dec.{T}
 use Rattle.octets.specs.Text.{digit, value_from}
 use Rattle.octets.proofs.Choice.{T_true, true-T, front-drop-true, front-drop-false, front-drop-end}
 use Rattle.octets.proofs.Text.{digit_low, digit-high}
@@ -46,8 +45,7 @@ loop-i-preserved c =
     let found = true-T (digit octet) c.if-not-is_digit.false in
     let v = inv.1 * 10 + (octet - 48) in
     let one = front-drop-true digit text i (omega arith) (T_true (digit octet) found) in
-    let high = digit-high octet found in
-    (
+    let high = digit-high octet found in (
       omega (arith, ap length one),
       v,
       elim c.if-next-gt-CAP.branch [ then-next-gt-CAP w ↦ omega arith | else-next-gt-CAP w ↦ omega arith ],

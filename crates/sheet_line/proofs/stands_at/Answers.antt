@@ -1,7 +1,7 @@
 -- `sheet_line::stands_at` meets its contract: the whole key stands at the place if what is left of it stands where the loop is.
 -- Assumes nothing.
 use mathlib.Core.Path.{sym, ◌∙◌}
-use Prim.Native.Nat.{◌+◌, ◌-◌}
+use Prim.Native.Nat.{◌+◌}
 use native.Mathlib.Nat.{add-zero, add_assoc}
 use native.Mathlib.Omega.{arith}
 use lib.ListN.{drop, length-drop, drop_of_length-le}

@@ -382,13 +382,13 @@ module _ (s : Sheet) (v : T (valid_alone s)) (m : Meaning) (p : List ℕ) (w : W
   narrow = ltb→lt m.ssrc (256 ^ 4) (T-and-left (within 4 m.ssrc) (takes_all grant k.rows m.values) w.taken)
 
   -- its rows take the values
-  takes_all : T (takes_all grant k.rows m.values)
+  takes_all_lem : T (takes_all grant k.rows m.values)
   unfolding writable
-  takes_all = T-and-right (within 4 m.ssrc) (takes_all grant k.rows m.values) w.taken
+  takes_all_lem = T-and-right (within 4 m.ssrc) (takes_all grant k.rows m.values) w.taken
 
   -- it is short enough
   most : first_field + length (laid_all contents) ≤ 256
-  most = omega (arith, contents-most grant k.rows m.values takes_all, right.few)
+  most = omega (arith, contents-most grant k.rows m.values takes_all_lem, right.few)
 
   -- its header says what it was made of
   pub packet-front : Front p m.ack k.number m.ssrc k.letters (laid_all contents)
@@ -406,7 +406,7 @@ module _ (s : Sheet) (v : T (valid_alone s)) (m : Meaning) (p : List ℕ) (w : W
       subst (λ (q : List ℕ). T (are_octets q)) (sym w.is)
       (header-octets m.ack k.number m.ssrc k.letters (laid_all contents) right.number narrow right.letters
       right.octets
-      (contents-octets grant k.rows m.values right.ids takes_all))
+      (contents-octets grant k.rows m.values right.ids takes_all_lem))
 
   -- it is of the kind
   pub packet-kind : kind_of (numbers_of s) p ≡ some k
@@ -415,14 +415,14 @@ module _ (s : Sheet) (v : T (valid_alone s)) (m : Meaning) (p : List ℕ) (w : W
   -- its fields mean the values
   pub packet-fields : FieldsMean p grant k.rows m.values first_field
   packet-fields =
-      fields_mean p grant k.rows m.values first_field right.ids takes_all packet-front.rest
+      fields_mean p grant k.rows m.values first_field right.ids takes_all_lem packet-front.rest
 
   -- it is read
   packet-read : read_by (numbers_of s) p ≡ reads k.kind (ssrc_in p) (ack_asked p) packet-fields.held
   unfolding useful fields_of
   packet-read =
       let head : Headed p = (packet-front.size, packet-front.head) in
-      let walked = (whole_exactly p head).1 (contents, contents_ids grant k.rows m.values right.ids takes_all, packet-front.rest) in
+      let walked = (whole_exactly p head).1 (contents, contents_ids grant k.rows m.values right.ids takes_all_lem, packet-front.rest) in
       let fs = fields_from p first_field in
       let f = packet-fields in
       let same : grant ≡ grants isOneHeld k.rows f.held = ap (grants is_one k.rows) (sym f.means) ∙ grants-meant p k.rows f.held in

@@ -9,29 +9,22 @@ use Rattle.writing.specs.Writing.{told, after}
 use Rattle.writing.proofs.Laws.Planned.{writes-plan, writes-none}
 use Rattle.writing.proofs.write_by.Goals as goal
 
--- the message has this plan
-planned : (c : goal.In-Packet-2)
-    → let a = c.args in
-    plan_said c.plan-1.given.0.0 ≡ plan_of a.numbers.now (message_in a.message.now) a.names.now
-planned c = rw c.plan-1.given.1 at c.plan_of.ensures
-
+-- a plan of the message that is right is what was planned
 pub write_plan-requires : goal.write_plan-requires
 write_plan-requires c =
-    let p = c.before.before in
-    let a = p.args in
-    (plans_the_packet a.numbers.now a.message.now a.names.now p.plan-1.given.0.0 (planned p)).1
+    let a = c.args in
+    let planned = c.in-Packet.ensures in
+    (plans_the_packet a.numbers.now a.message.now a.names.now c.in-Packet.plan planned).1
 
 pub returns-in-Packet : goal.returns-in-Packet
 returns-in-Packet c =
-    let p = c.before.before.before.before.before in
-    let a = p.args in
-    rw (writes-plan a.numbers.now a.message.now a.names.now (length a.out-1.now) p.plan-1.given.0.0 (planned p))
-    c.write_plan.ensures
+    let a = c.args in
+    let planned = c.in-Packet.ensures in
+    rw (writes-plan a.numbers.now a.message.now a.names.now (length a.out.now) c.in-Packet.plan planned) c.write_plan.ensures
 
 pub returns-in-Refused : goal.returns-in-Refused
 unfolding told after
 returns-in-Refused c =
-    let r = c.before in
-    let a = r.args in
-    let none = rw r.number-1.given.1 at r.plan_of.ensures in
-    rw (writes-none a.numbers.now a.message.now a.names.now (length a.out-1.now) r.number-1.given.0.0 none) (refl, refl)
+    let a = c.args in
+    let none = c.in-Refused.ensures in
+    rw (writes-none a.numbers.now a.message.now a.names.now (length a.out.now) c.in-Refused.number none) (refl, refl)

@@ -1,6 +1,5 @@
 -- `writing::write_lent` meets its contract: the numbers are checked first, and a valid sheet's fit. Assumes nothing.
 use mathlib.Core.Path.{refl, sym, ◌∙◌}
-use borrow.Author.Tests.{not-true, not-false}
 use Rattle.octets.proofs.Choice.{T_true, true-T}
 use Rattle.sheet.proofs.Laws.Values.{sheet_in-counted, valid-counted}
 use Rattle.plan.specs.Packet.{fitting}
@@ -16,9 +15,7 @@ returns-then-not-are_valid c =
 pub returns : goal.returns
 unfolding write_of write_by
 returns c =
-    let put = c.before.before in
-    let else1 = put.before.before in
-    let ns = else1.args.numbers.now in
-    let valid = sym else1.are_valid.ensures ∙ else1.if-not-are_valid.false in
+    let ns = c.args.numbers.now in
+    let valid = sym c.are_valid.ensures ∙ c.if-not-are_valid.false in
     let t = true-T _ valid in
-    rw (valid, sheet_in-counted ns (valid-counted ns t)) (rw (T_true (fitting ns) (valid-fitting ns t)) at put.write_by.ensures)
+    rw (valid, sheet_in-counted ns (valid-counted ns t)) (rw (T_true (fitting ns) (valid-fitting ns t)) at c.write_by.ensures)

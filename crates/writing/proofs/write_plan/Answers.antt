@@ -49,52 +49,37 @@ module _ (names : List ℕ) (plan : Plan) where
     unfolding plan_packet with_header room_for
     with-room room h = rw (le-leb (length packet) room (omega (arith, length-packet)))
 
--- the plan is right
-right : (c : goal.After-size_of-size)
-    → let a = c.args in
-    T (plan_right a.names.now a.plan)
-right c = c.requires
-
 pub overflow_add-size : goal.overflow_add-size
-overflow_add-size c = let most = plan-most c.args.names.now c.args.plan (right c) in omega (arith, c.type_size.ensures)
+overflow_add-size c = let most = plan-most c.args.names.now c.args.plan c.requires in omega (arith, c.size_of-size.ensures)
 
 pub returns-then-out-size : goal.returns-then-out-size
 unfolding told after
 returns-then-out-size c =
-    let sized = c.before in
-    let a = sized.args in
-    rw (no_room a.names.now a.plan (right sized) (length a.out-1.now) (omega (arith, sized.type_size.ensures))) (refl, refl)
+    let a = c.args in
+    rw (no_room a.names.now a.plan c.requires (length a.out.now) (omega (arith, c.size_of-size.ensures))) (refl, refl)
 
 pub put_header-requires : goal.put_header-requires
 put_header-requires c =
-    let sized = c.before.before in
-    let a = sized.args in
-    let most = plan-most a.names.now a.plan (right sized) in
+    let most = plan-most c.args.names.now c.args.plan c.requires in
     (omega arith, omega arith, omega arith)
 
 pub put_fields-requires : goal.put_fields-requires
-put_fields-requires c =
-    let sized = c.before.before.before.before.before.before in
-    (right sized, simp (length-take, length-drop) (omega arith))
+put_fields-requires c = (c.requires, simp (length-take, length-drop) (omega arith))
 
 pub overflow_cast-result : goal.overflow_cast-result
 overflow_cast-result c =
-    let sized = c.before.before.before.before.before.before.before.before.before in
-    let most = plan-most sized.args.names.now sized.args.plan (right sized) in
-    omega (arith, sized.type_size.ensures)
+    let most = plan-most c.args.names.now c.args.plan c.requires in
+    omega (arith, c.size_of-size.ensures)
 
 pub returns : goal.returns
 unfolding told after
 returns c =
-    let put = c.before.before in
-    let headed = put.before.before.before.before in
-    let sized = headed.before.before.before in
-    let a = sized.args in
+    let a = c.args in
     let names = a.names.now in
     let plan = a.plan in
-    let t = right sized in
-    rw (with-room names plan t (length a.out-1.now) (omega arith)) (
-      rw (length-packet names plan t, sized.type_size.ensures),
-      rw (put.put_fields.ensures, headed.put_header.ensures, sized.type_size.ensures, ← plan-length names plan t)
-          (part-over 12 (head names plan) (plan_octets names plan) a.out-1.now (length-head names plan)),
+    let t = c.requires in
+    rw (with-room names plan t (length a.out.now) (omega arith)) (
+      rw (length-packet names plan t, c.size_of-size.ensures),
+      rw (c.put_fields.ensures, c.put_header.ensures, c.size_of-size.ensures, ← plan-length names plan t)
+          (part-over 12 (head names plan) (plan_octets names plan) a.out.now (length-head names plan)),
     )

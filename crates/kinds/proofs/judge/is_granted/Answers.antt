@@ -50,8 +50,13 @@ returns-then-packet-at-ne2 c =
 
 pub returns-then-packet-at : goal.returns-then-packet-at
 returns-then-packet-at c =
-    rw (first-told c.args.packet.now c.args.kind c.loop-at.at c.args.resultid c.if-kind-ne2.false c.loop-at.invariant c.loop-at-test.true c.if-packet-at.true,
-    eq-eqb _ 2 c.if-packet-at-ne2.false, c.u16_of.ensures, sym (big_at-two c.args.packet.now (c.loop-at.at + 2)), add_assoc)
+    rw (
+      first-told c.args.packet.now c.args.kind c.loop-at.at c.args.resultid c.if-kind-ne2.false c.loop-at.invariant c.loop-at-test.true c.if-packet-at.true,
+      eq-eqb _ 2 c.if-packet-at-ne2.false,
+      c.u16_of.ensures,
+      sym (big_at-two c.args.packet.now (c.loop-at.at + 2)),
+      add_assoc,
+    )
 
 -- where the field ends
 pub overflow_add-at-in-loop-at-2 : goal.overflow_add-at-in-loop-at-2

@@ -70,8 +70,8 @@ pub loop-at-preserved : goal.loop-at-preserved
 loop-at-preserved c =
     rw (next-size c.args.packet.now c.loop-at.at c.size_of-at.result c.size_of-at.ensures)
     (elim c.match-use_of.branch [
-      in-Fills+else-not-fits w ↦ rw w.places-is
-        (judging-fills c.loop-at.invariant c.loop-at-test.true w.in-Fills.i (sym w.in-Fills.ensures) (sym w.fits.ensures ∙ w.if-not-fits.false))
+      | in-Fills+else-not-fits w ↦ rw w.places-is
+          (judging-fills c.loop-at.invariant c.loop-at-test.true w.in-Fills.i (sym w.in-Fills.ensures) (sym w.fits.ensures ∙ w.if-not-fits.false))
       | in-Skipped w ↦ rw w.places-is (judging-skips c.loop-at.invariant c.loop-at-test.true (sym w.in-Skipped.ensures))
     ])
 

@@ -27,7 +27,7 @@ loop-i-preserved c =
     let m : length a.places ≡ 3 = search rules in (
       omega arith,
       elim c.if-slot.branch [
-        then-slot+else-places-i-eq0 w ↦ sym (lackIn-filled a.slots a.places i (omega arith) (omega arith) w.if-places-i-eq0.false)
+        | then-slot+else-places-i-eq0 w ↦ sym (lackIn-filled a.slots a.places i (omega arith) (omega arith) w.if-places-i-eq0.false)
         | else-slot w ↦ sym (lackIn-free a.slots a.places i (omega arith) (omega arith) w.if-slot.false)
       ]
           ∙ c.loop-i.invariant.1,

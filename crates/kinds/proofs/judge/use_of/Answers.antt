@@ -27,7 +27,7 @@ loop-i-preserved c =
     let m : length a.places ≡ 3 = search rules in (
       omega arith,
       elim c.if-slot-id.branch [
-        then-slot-id+else-places-i-eq0 w ↦ rw w.known-is (sym (openIn-filled a.slots a.places loop.i (omega arith) (omega arith) a.id loop.known w.if-slot-id.true w.if-places-i-eq0.false))
+        | then-slot-id+else-places-i-eq0 w ↦ rw w.known-is (sym (openIn-filled a.slots a.places loop.i (omega arith) (omega arith) a.id loop.known w.if-slot-id.true w.if-places-i-eq0.false))
         | else-slot-id w ↦ rw w.known-is (sym (openIn-other a.slots a.places loop.i (omega arith) (omega arith) a.id loop.known w.if-slot-id.false))
       ]
           ∙ loop.invariant.1,

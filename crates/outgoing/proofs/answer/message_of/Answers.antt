@@ -19,23 +19,23 @@ returns c =
     let kind = get_or c.args.answer.now 1 0 in
     -- an end response names the transmitter
     let len_is : c.if-kind-eq-END_RESPONSE.len ≡ pick (eqb kind 4) (length (name_of c.args.name.now)) 0 =
-        elim c.if-kind-eq-END_RESPONSE.branch [
-          then-kind-eq-END_RESPONSE w ↦ w.len-is ∙ rw w.if-kind-eq-END_RESPONSE.true w.name_length.ensures
-        | else-kind-eq-END_RESPONSE w ↦ w.len-is ∙ rw (ne_eqb kind 4 w.if-kind-eq-END_RESPONSE.false)
-        ]
+    elim c.if-kind-eq-END_RESPONSE.branch [
+      | then-kind-eq-END_RESPONSE w ↦ w.len-is ∙ rw w.if-kind-eq-END_RESPONSE.true w.name_length.ensures
+      | else-kind-eq-END_RESPONSE w ↦ w.len-is ∙ rw (ne_eqb kind 4 w.if-kind-eq-END_RESPONSE.false)
+    ]
     in
     -- an Ack has a Source ..
     let source_is : c.if-kind-eq-ACK.source ≡ pick (eqb kind 7) 2 no_number =
-        elim c.if-kind-eq-ACK.branch [
-          then-kind-eq-ACK w ↦ w.source-is ∙ rw w.if-kind-eq-ACK.true
-        | else-kind-eq-ACK w ↦ w.source-is ∙ rw (ne_eqb kind 7 w.if-kind-eq-ACK.false)
-        ]
+    elim c.if-kind-eq-ACK.branch [
+      | then-kind-eq-ACK w ↦ w.source-is ∙ rw w.if-kind-eq-ACK.true
+      | else-kind-eq-ACK w ↦ w.source-is ∙ rw (ne_eqb kind 7 w.if-kind-eq-ACK.false)
+    ]
     in
     -- .. and a Message Type
     let about-is : c.if-kind-eq-ACK-2.about ≡ pick (eqb kind 7) 1 no_number =
-        elim c.if-kind-eq-ACK-2.branch [
-          then-kind-eq-ACK-2 w ↦ w.about-is ∙ rw w.if-kind-eq-ACK-2.true
-        | else-kind-eq-ACK-2 w ↦ w.about-is ∙ rw (ne_eqb kind 7 w.if-kind-eq-ACK-2.false)
-        ]
+    elim c.if-kind-eq-ACK-2.branch [
+      | then-kind-eq-ACK-2 w ↦ w.about-is ∙ rw w.if-kind-eq-ACK-2.true
+      | else-kind-eq-ACK-2 w ↦ w.about-is ∙ rw (ne_eqb kind 7 w.if-kind-eq-ACK-2.false)
+    ]
     in
     rw (len_is, source_is, about-is)

@@ -20,8 +20,8 @@ returns-then-kind c =
     let row = c.args.message.now in
     let user : pick (eqb (get_or row 0 0) 1) (name_right_at c.args.names.now row 3) true ≡ true =
     elim c.if-kind-eq1.branch [
-      then-kind-eq1+else-not-is_right w ↦ rw w.if-kind-eq1.true (sym w.is_right.ensures ∙ w.if-not-is_right.false)
-    | else-kind-eq1 w ↦ rw (ne_eqb _ 1 w.if-kind-eq1.false)
+      | then-kind-eq1+else-not-is_right w ↦ rw w.if-kind-eq1.true (sym w.is_right.ensures ∙ w.if-not-is_right.false)
+      | else-kind-eq1 w ↦ rw (ne_eqb _ 1 w.if-kind-eq1.false)
     ] in
     rw (user, c.if-kind.true) c.is_right-then-kind.ensures
 
@@ -31,7 +31,7 @@ returns c =
     let row = c.args.message.now in
     let user : pick (eqb (get_or row 0 0) 1) (name_right_at c.args.names.now row 3) true ≡ true =
     elim c.if-kind-eq1.branch [
-      then-kind-eq1+else-not-is_right w ↦ rw w.if-kind-eq1.true (sym w.is_right.ensures ∙ w.if-not-is_right.false)
-    | else-kind-eq1 w ↦ rw (ne_eqb _ 1 w.if-kind-eq1.false)
+      | then-kind-eq1+else-not-is_right w ↦ rw w.if-kind-eq1.true (sym w.is_right.ensures ∙ w.if-not-is_right.false)
+      | else-kind-eq1 w ↦ rw (ne_eqb _ 1 w.if-kind-eq1.false)
     ] in
     rw (user, c.if-kind.false)

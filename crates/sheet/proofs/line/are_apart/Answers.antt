@@ -1,7 +1,6 @@
 -- `sheet::line::are_apart` meets its contract. The invariant: each line before k, from the first on, is apart.
 -- Assumes nothing.
 use mathlib.Core.Path.{◌≡◌, sym, ◌∙◌}
-use Prim.Native.Nat.{◌-◌}
 use borrow.Author.Count.{below_more}
 use native.Mathlib.Omega.{arith}
 use Rattle.octets.proofs.Choice.{true-T, false-T}

@@ -1,7 +1,6 @@
 -- `sheet::line::are_within` meets its contract. The invariant: what was joined says whether each line before k is within its bounds.
 -- Assumes nothing.
 use mathlib.Core.Path.{◌≡◌, ◌∙◌}
-use Prim.Native.Nat.{◌-◌}
 use borrow.Author.Count.{below_none, below_more}
 use borrow.Author.Rules.{rules}
 use native.Mathlib.Omega.{arith}

@@ -2,7 +2,6 @@
 -- no line before the eldest is of the family.
 -- Assumes nothing.
 use mathlib.Core.Path.{sym, ◌∙◌}
-use Prim.Native.Nat.{◌-◌}
 use Rattle.sheet.proofs.Laws.Numbers.{taken_here, taken-skip, taken-end, taken-from}
 use Rattle.sheet.proofs.line.is_taken.Goals as goal
 use Rattle.sheet.proofs.line.is_taken.Goals.{then-earlier-j+else-rule-family, else-earlier-j}
@@ -24,10 +23,10 @@ loop-j-preserved c =
     c.loop-j.invariant
     ∙ taken-skip a.family a.n a.earlier.now c.loop-j.j c.loop-j-test.true
     (λ p q.
-        elim c.if-earlier-j.branch [
-          then-earlier-j+else-rule-family w ↦ w.if-rule-family.false (w.rule_of-rule.ensures.family ∙ p)
-        | else-earlier-j w ↦ w.if-earlier-j.false q
-        ])
+    elim c.if-earlier-j.branch [
+      | then-earlier-j+else-rule-family w ↦ w.if-rule-family.false (w.rule_of-rule.ensures.family ∙ p)
+      | else-earlier-j w ↦ w.if-earlier-j.false q
+    ])
 
 pub returns : goal.returns
 returns c =

@@ -7,10 +7,8 @@ use Rattle.shown.proofs.text.length_of.Goals as goal
 
 pub returns-in-Read : goal.returns-in-Read
 returns-in-Read c =
-    let m = c.reading-1.given in
-    let start = c.before.before.before.before.before.before in
     let ten = c.row_of in
-    rw (m.1, text_of-row start.args.packet.now m.0.0 ten.result ten.ensures, length-ten_line) (omega arith)
+    rw (c.in-Read.is, text_of-row c.args.packet.now c.in-Read.message ten.result ten.ensures, length-ten_line) (omega arith)
 
 pub returns-in-Refused : goal.returns-in-Refused
 unfolding text_of number_line

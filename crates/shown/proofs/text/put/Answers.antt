@@ -5,10 +5,8 @@ use Rattle.shown.proofs.text.put.Goals as goal
 
 pub put_ten-requires : goal.put_ten-requires
 put_ten-requires c =
-    let start = c.before.before.before.before.before.before.before in
-    let m = c.reading-1.given in
     let ten = c.row_of in
-    rw (← text_of-row start.args.packet.now m.0.0 ten.result ten.ensures) (rw m.1 at start.requires)
+    rw (← text_of-row c.args.packet.now c.in-Read.message ten.result ten.ensures) (rw c.in-Read.is at c.requires)
 
 pub put_line-requires : goal.put_line-requires
 unfolding text_of number_line
@@ -16,10 +14,8 @@ put_line-requires c = rw c.in-Refused.is at c.requires
 
 pub returns-in-Read : goal.returns-in-Read
 returns-in-Read c =
-    let start = c.before.before.before.before.before.before.before.before.before.before in
-    let m = c.reading-1.given in
     let ten = c.row_of in
-    rw (m.1, text_of-row start.args.packet.now m.0.0 ten.result ten.ensures) c.put_ten.ensures
+    rw (c.in-Read.is, text_of-row c.args.packet.now c.in-Read.message ten.result ten.ensures) c.put_ten.ensures
 
 pub returns-in-Refused : goal.returns-in-Refused
 unfolding text_of number_line

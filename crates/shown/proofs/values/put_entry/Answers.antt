@@ -42,13 +42,13 @@ module _ (c : Start) where
 
 pub put_value-requires : goal.put_value-requires
 put_value-requires c =
-    let start = c.before.before.before.before.before.before.before.before.before in
+    let start = (goal.at.put_value-requires c).Start in
     rw (c.value_in.ensures, c.put_octets.ensures, length-put_at) (omega (arith, room start))
 
 pub returns : goal.returns
 returns c =
-    let start = c.before.before.before.before.before.before.before.before.before.before.before.before in
-    let a = start.args in
+    let start = (goal.at.returns c).Start in
+    let a = c.args in
     let value = rw c.value_in.ensures at c.put_value.ensures in
     let both =
     put_both a.out.now a.at (name start) (text start) _ (a.at + a.len) _ _

@@ -29,25 +29,18 @@ puts-fields s names plan t h =
     )
 
 pub put_part-at-requires : goal.put_part-at-requires
-put_part-at-requires c =
-    let start = c.before.before.before in
-    ((parts-right start.args.names.now start.args.plan start.requires.0).0, omega arith)
+put_part-at-requires c = ((parts-right c.args.names.now c.args.plan c.requires.0).0, omega arith)
 
 pub put_part-at-requires-2 : goal.put_part-at-requires-2
-put_part-at-requires-2 c =
-    let start = c.before.before.before.before.before.before.before in
-    ((parts-right start.args.names.now start.args.plan start.requires.0).1, omega arith)
+put_part-at-requires-2 c = ((parts-right c.args.names.now c.args.plan c.requires.0).1, omega arith)
 
 pub put_part-requires : goal.put_part-requires
-put_part-requires c =
-    let start = c.before.before.before.before.before.before.before.before.before.before.before in
-    ((parts-right start.args.names.now start.args.plan start.requires.0).2, omega arith)
+put_part-requires c = ((parts-right c.args.names.now c.args.plan c.requires.0).2, omega arith)
 
 pub returns : goal.returns
 returns c =
-    let start = c.before.before.before.before.before.before.before.before.before.before.before.before.before.before in
-    let a = start.args in
+    let a = c.args in
     let first = c.put_part-at.ensures in
     let second = c.put_part-at-2.ensures in
     let third = c.put_part.ensures in
-    rw (third.0, second.1, second.0, first.1, first.0) (puts-fields a.s-1.now a.names.now a.plan start.requires.0 start.requires.1)
+    rw (third.0, second.1, second.0, first.1, first.0) (puts-fields a.s.now a.names.now a.plan c.requires.0 c.requires.1)

@@ -33,14 +33,7 @@ puts-header out first size ssrc letters h =
 pub bounds-out-1 : goal.bounds-out-1
 bounds-out-1 c = simp length-set (omega arith)
 
-pub shape_of-out : goal.shape_of-out
-shape_of-out c = omega (arith, simp length-set at c.put_u16.auto.0)
-
 pub returns : goal.returns
 returns c =
-    let start = c.before.before.before.before.before.before.before.before.before.before.before.before.before in
-    let a = start.args in
-    let size-put = c.put_u16.ensures in
-    let ssrc-put = c.put_u32.ensures in
-    let letters-put = c.put_u32-2.ensures in
-    rw (letters-put, ssrc-put, size-put) (puts-header a.out-1.now a.plan.start a.size a.plan.ssrc a.plan.letters start.requires.0)
+    let a = c.args in
+    rw (c.put_u32-2.ensures, c.put_u32.ensures, c.put_u16.ensures) (puts-header a.out.now a.plan.start a.size a.plan.ssrc a.plan.letters c.requires.0)
