@@ -5,7 +5,7 @@ use lib.ListN.{length}
 use Rattle.mcvlook.proofs.look_through.Given as goal
 
 abbrev pub invariant-loop-turns : goal.invariant-loop-turns
-invariant-loop-turns l = (length l.initial.gathered ≡ 196608) × (l.out < 16384)
+invariant-loop-turns l = (length l.out ≡ 196608) × (l.gathered < 16384)
 
 abbrev pub decreases-loop-turns : goal.decreases-loop-turns
-decreases-loop-turns l = l.look
+decreases-loop-turns l = l.turns
