@@ -3,6 +3,7 @@
 // Standard input: how many cases there are; then for each an octet for what is asked, a length and that many octets.
 // Standard output: for each case a length and that many octets, the answer. Counts and lengths are four octets, big-endian.
 #![tactic(auto)]
+
 ghost use Rattle.std.specs.Prelude.{◌≡◌, ◌≤◌, length};
 ghost use Rattle.asked.specs.Value.{ssrcs_at};
 ghost use Rattle.asked.specs.Promises.{sheet_in≡};

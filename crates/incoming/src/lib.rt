@@ -1,5 +1,6 @@
 // Which event a packet makes (document 01, "Stream record").
 #![tactic(auto)]
+
 mod event;
 
 ghost use Rattle.std.specs.Prelude.{◌≡◌};

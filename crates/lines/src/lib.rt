@@ -1,6 +1,7 @@
 // The lines in a piece of the input (document 01, "Bench program"): a line of text for each that ends in it, and what is held of one that does
 // not.
 #![tactic(auto)]
+
 mod ends;
 pub mod held;
 
@@ -85,6 +86,7 @@ pub fn put_lines(out: &mut [u8], at: usize, numbers: Numbers, held: Held, piece:
 
 // Puts the last line at a place, where one is held, and gives the place past it. Where not ten octets for each of the line and its LF stand
 // behind the place, nothing is put.
+#[tactic(auto, using(crate::proofs::Laws::Held::no_last_put, crate::proofs::Laws::Held::no_last_length))]
 pub fn put_last(out: &mut [u8], at: usize, numbers: Numbers, held: Held) -> usize
     ensures { put_last≡ numbers held out.old at result out.new }
 {

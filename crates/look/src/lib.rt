@@ -1,6 +1,7 @@
 // What `mcvlook` prints (document 01, "Bench program"): a call sheet and then packets in hex, one a line, come in pieces; out goes a line of
 // text for each packet. What is kept between two pieces is a value, and has the same size whatever came.
 #![tactic(auto)]
+
 ghost use Rattle.std.specs.Prelude.{◌≡◌, ◌⊎◌, [], ◌++◌, ◌+◌, ◌*◌, ◌≤◌, length};
 ghost use Rattle.shown.specs.Promises.{Put};
 ghost use Rattle.lines.specs.Pieces.{most_held, held_in};

@@ -1,6 +1,7 @@
 // The bench program (document 01, "Bench program"): standard input is a call sheet and then packets in hex, one a line; standard output has a
 // line for each packet. It holds no rule of its own: what is printed is `look`'s.
 #![tactic(auto)]
+
 ghost use Rattle.std.specs.Prelude.{◌≡◌, ◌+◌, ◌≤◌, ◌<◌, length};
 ghost use Rattle.look.specs.Steps.{state_of, look_as, step_of, end_of};
 ghost use Rattle.mcvlook.specs.Gathered.{Gathers};
@@ -77,13 +78,7 @@ fn finish(stdout: Stdout, look: Look, out: &[u8], gathered: usize) -> Turn
 
 // Reads a piece, and prints and writes what comes of it. At the end of the input, where a read fails, and behind a refused sheet, all that is
 // gathered is written.
-fn take_turn(
-    mut stdin: Stdin,
-    stdout: Stdout,
-    look: Look,
-    out: &mut [u8],
-    gathered: usize,
-) -> Turn
+fn take_turn(mut stdin: Stdin, stdout: Stdout, look: Look, out: &mut [u8], gathered: usize) -> Turn
     requires { (gathered < 16384) × (length out.old ≡ 196608) }
     ensures { result.gathered < 16384 }
 {

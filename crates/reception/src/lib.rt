@@ -1,6 +1,7 @@
 // Reception control (document 01, "Three steps"): a record for each stream, and the three steps by which two routines share it: read, work
 // out, store. Records, events and answers are those of `streams`, handed on by their names.
 #![tactic(auto)]
+
 ghost use Rattle.std.specs.Prelude.{◌≡◌, ◌≤◌, length};
 ghost use Rattle.sheet.specs.Value.{sheet_from, sheet_in};
 ghost use Rattle.streams.specs.Record.{rules_of, own};

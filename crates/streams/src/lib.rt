@@ -1,5 +1,6 @@
 // A stream's record and the event table (document 01, "Stream record"): records made, judged and compared, and what an event makes of one.
 #![tactic(auto)]
+
 mod receivers;
 pub mod stream;
 pub mod table;

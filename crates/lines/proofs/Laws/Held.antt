@@ -8,7 +8,7 @@ use lib.Dec.{leb}
 use lib.Seq.{take_all, take-take, length-take-le}
 use Rattle.octets.specs.Buffer.{put_at, padded}
 use Rattle.octets.proofs.Choice.{pick_same}
-use Rattle.octets.proofs.Buffer.{put_at-next, put_at-zeros, length-padded, take-padded}
+use Rattle.octets.proofs.Buffer.{put_at-nil, put_at-next, put_at-zeros, length-padded, take-padded}
 use Rattle.octets.proofs.Parts.{take-both}
 use Rattle.kinds.specs.declared.Numbers.{Numbers}
 use Rattle.shown.specs.Line.{line_by, line_room, fitting}
@@ -109,6 +109,13 @@ pub last_none : (n : Numbers) (line : List ℕ) → length line ≡ 0 → last_l
 unfolding last_line last_of flatten
 last_none n [] e = refl
 last_none n (c ∷ line) e = absurd (let z : ⊥ = omega arith in z)
+
+-- and then nothing is put
+pub no_last_put : (n : Numbers) (line out : List ℕ) (at asked octets : ℕ) → length line ≡ 0 → put_at out at (fitting asked octets at (last_line n line)) ≡ out
+no_last_put n line out at asked octets e = rw (last_none n line e, fitting-nil, put_at-nil)
+
+pub no_last_length : (n : Numbers) (line : List ℕ) (at asked octets : ℕ) → length line ≡ 0 → length (fitting asked octets at (last_line n line)) ≡ 0
+no_last_length n line at asked octets e = rw (last_none n line e, fitting-nil)
 
 -- where one is
 pub last_some : (n : Numbers) (line : List ℕ) → (length line ≡ 0 → ⊥) → last_line n line ≡ line_by n line

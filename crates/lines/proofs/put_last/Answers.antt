@@ -2,15 +2,9 @@
 use mathlib.Core.Path.{sym}
 use native.Mathlib.Omega.{arith}
 use lib.Seq.{length-take-le}
-use Rattle.octets.proofs.Buffer.{put_at-nil}
 use Rattle.lines.specs.Pieces.{held_in}
-use Rattle.lines.proofs.Laws.Held.{held-within, held_all, last_none, last_some, fitting-nil}
+use Rattle.lines.proofs.Laws.Held.{held-within, held_all, last_some}
 use Rattle.lines.proofs.put_last.Goals as goal
-
-pub returns-then-len-eq0 : goal.returns-then-len-eq0
-returns-then-len-eq0 c =
-    let a = c.args in
-    rw (last_none a.numbers (held_in a.held) (omega arith), fitting-nil) (sym (put_at-nil _ _), omega arith)
 
 pub slice_bounds-octets-end : goal.slice_bounds-octets-end
 slice_bounds-octets-end c = omega (arith, held-within c.args.held)

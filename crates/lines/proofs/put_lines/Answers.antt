@@ -42,6 +42,7 @@ held : (c : After-with-first)
     → c.with-first.result ≡ held_of (kept_of (held_in c.args.held ++ take c.line_end-lf.result c.args.piece.now))
 unfolding kept_of
 held c = c.with-first.ensures
+
 pub overflow_add-length_of : goal.overflow_add-length_of
 overflow_add-length_of c = omega (arith, held-most c.args.held (search rules))
 

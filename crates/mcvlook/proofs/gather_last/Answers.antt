@@ -8,8 +8,11 @@ pub overflow_add-result : goal.overflow_add-result
 overflow_add-result c =
     let a = c.args in
     let w = c.end in
-    omega (arith, (gathers-end a.out.now a.gathered (omega arith) a.look (omega arith) w.new.out w.auto.out c.in-Printed.octets
-    (rw c.in-Printed.is at w.ensures)).fits)
+    omega (
+      arith,
+      (gathers-end a.out.now a.gathered (omega arith) a.look (omega arith) w.new.out w.auto.out c.in-Printed.octets
+          (rw c.in-Printed.is at w.ensures)).fits,
+    )
 
 pub returns-in-Printed : goal.returns-in-Printed
 returns-in-Printed c =

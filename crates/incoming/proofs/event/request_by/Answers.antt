@@ -1,7 +1,7 @@
 -- `incoming::event::request_by` meets its contract: the User ID in the seat's row is compared with the octets that the name's place has in
 -- the packet. Assumes nothing.
-use mathlib.Core.Path.{sym, ◌∙◌}
 use native.Mathlib.Nat.{add-sub_cancel_left}
+use borrow.Author.Rules.{rules}
 use Rattle.incoming.specs.Event.{request_by}
 use Rattle.incoming.proofs.Laws.Heard.{name-ends}
 use Rattle.incoming.proofs.event.request_by.Goals as goal
@@ -13,10 +13,10 @@ pub returns-then-not-has_name : goal.returns-then-not-has_name
 unfolding request_by
 returns-then-not-has_name c =
     let told = rw add-sub_cancel_left at c.has_name.ensures in
-    rw (sym told ∙ c.if-not-has_name.true) c.refused.ensures
+    search rules
 
 pub returns : goal.returns
 unfolding request_by
 returns c =
     let told = rw add-sub_cancel_left at c.has_name.ensures in
-    rw (sym told ∙ c.if-not-has_name.false) c.on_stream.ensures
+    search rules
