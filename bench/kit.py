@@ -1,6 +1,6 @@
 """The kit and the modules that it makes: kept under target/bench, and compiled for this machine.
 
-`rt` compiles for x86-64. It is given a folder of links to the kit in which `clang` keeps the module that it is handed and goes on; the kit's own clang
+`rt` is run from a folder of links to the kit in which `clang` keeps the module that it is handed and goes on; the kit's own clang
 then compiles that module for any machine, as the kit compiles it."""
 import os
 import shutil
@@ -12,49 +12,50 @@ from pathlib import Path
 root = Path(__file__).resolve().parent.parent
 kept = root / "target" / "bench"
 machine = os.uname().machine
-kit = Path(subprocess.check_output(["rt", "doc"], text=True).strip()).parent.parent
-tools = Path("on") / machine / "toolchain"
-clang = kit / tools / "bin" / "clang"
+kit = Path(subprocess.check_output(["rt", "doc"], text=True).strip()).parent
+clang = kit / "toolchain" / "bin" / "clang"
 second = root / "target" / "second" / "release" / "second"
 
 
-def linked(there, below):
-    """A folder of links to all of the kit's, but for what lies on the way to its clang."""
+def linked(there, below, *apart):
+    """A folder of links to all of the kit's, but for some."""
     (there / below).mkdir()
     for part in (kit / below).iterdir():
-        if not (tools / "bin" / "clang").is_relative_to(part.relative_to(kit)):
+        if part.name not in apart:
             (there / below / part.name).symlink_to(part)
 
 
 def keeping(there, module):
-    """A kit whose clang keeps the module that it is handed."""
-    for below in [*reversed((tools / "bin").parents), tools / "bin"]:
-        linked(there, below)
-    script = there / tools / "bin" / "clang"
-    script.write_text(f'#!/bin/sh\ncp module.bc {module}\nexec {clang} "$@"\n')
+    """A kit whose clang keeps the module that it is handed. `rt` finds its kit by where it stands itself."""
+    linked(there, Path(), "bin", "toolchain")
+    linked(there, Path("bin"), "rt", "rtlib.py")
+    for part in ("rt", "rtlib.py"):
+        shutil.copy(kit / "bin" / part, there / "bin" / part)
+    linked(there, Path("toolchain"), "bin")
+    linked(there, Path("toolchain/bin"), "clang")
+    script = there / "toolchain" / "bin" / "clang"
+    script.write_text(f'#!/bin/sh\n[ ! -f module.bc ] || cp module.bc {module}\nexec {clang} "$@"\n')
     script.chmod(0o755)
 
 
 def is_up_to_date(made):
-    sources = [root / "crates.txt", *(root / "crates").rglob("*")]
+    sources = [root / "crates.txt", *(path for path in (root / "crates").rglob("*") if "out" not in path.parts)]
     return made.exists() and made.stat().st_mtime >= max(source.stat().st_mtime for source in sources)
 
 
-def module(name, made, words):
-    """The module of what `rt WORDS` makes, at `made`. Where either is missing or older than the crates, it is proved and built."""
+def module(name, made, word):
+    """The module of what `rt WORD` makes in a crate, at `made`. Where either is missing or older than the crates, it is proved and built."""
     path = kept / f"{name}.bc"
     if is_up_to_date(path) and is_up_to_date(made):
         return path
     kept.mkdir(parents=True, exist_ok=True)
-    # a program with a stamp is not built again
-    (root / "target" / "stamp" / name).unlink(missing_ok=True)
+    # what is there is not built again
+    made.unlink(missing_ok=True)
     with tempfile.TemporaryDirectory() as folder:
         there = Path(folder)
-        # rt runs a program as nobody, who has to reach the kit
-        there.chmod(0o755)
         keeping(there / "kit", there / "module.bc")
-        run = subprocess.run(["rt", *words], cwd=root, env={**os.environ, "RATTLE_HOME": str(there / "kit")}, capture_output=True, text=True)
-        if run.returncode:
+        run = subprocess.run([there / "kit" / "bin" / "rt", word], cwd=root / "crates" / name, stdin=subprocess.DEVNULL, capture_output=True, text=True)
+        if run.returncode or not made.exists():
             sys.exit(run.stdout + run.stderr)
         shutil.copyfile(there / "module.bc", path)
     return path
@@ -62,12 +63,12 @@ def module(name, made, words):
 
 def face():
     """The static library of the face, and its module."""
-    archive = root / "target" / "staticlib" / "libface.a"
-    return archive, module("face", archive, ["staticlib", "face"])
+    archive = root / "crates" / "face" / "out" / "libface.a"
+    return archive, module("face", archive, "lib")
 
 
 def mcvlook():
-    return module("mcvlook", root / "target" / "bin" / "mcvlook", ["check", "mcvlook"])
+    return module("mcvlook", root / "crates" / "mcvlook" / "out" / "mcvlook", "run")
 
 
 def compile_module(source, out, *words, arch=machine):
