@@ -1,6 +1,7 @@
 // The controller's calls for a host written in C, on numbers and octets (document 01: "also called from a bench host written in C, on numbers and octets,
 // with the same answers"). Each returns 0, or a refusal's number plus 256 times its line; include/coyametzi.h says what each row holds.
 #![tactic(auto)]
+
 mod told;
 
 ghost use Rattle.std.specs.Prelude.{◌≡◌, ◌&&◌, ◌+◌, ◌<◌, ◌≤◌, ◌^◌, ltb, leb};

@@ -7,3 +7,4 @@ pub mod Back
 pub mod Forth
 pub mod Canon
 pub mod Claims
+pub mod Room

@@ -28,6 +28,7 @@ const NO_ROOM: u32 = 11;
 const NO_SHEET: u32 = 12;
 
 // Writes what was planned, or 11. The room is checked before the first store.
+#[tactic(auto, using(crate::proofs::Laws::Room::no_room), unfolding(crate::specs::Writing::told, crate::specs::Writing::after))]
 fn write_plan(plan: Plan, names: &[u8], out: &mut [u8]) -> Writing
     requires { T (plan_right names.now plan) }
     ensures { PlanWritten names.now plan out.old result out.new }

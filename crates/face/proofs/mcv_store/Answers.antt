@@ -35,13 +35,13 @@ stands row r a e is = subst (TryingIs row) is (trying_is row r e)
 
 pub slice_bounds-store-start : goal.slice_bounds-store-start
 slice_bounds-store-start c =
-    let stands = stands c.args.attempt.now _ _ c.attempt_in.ensures c.in-Attempt.is in
-    omega (arith, answered-length _ c.in-Attempt.given stands)
+    let held = stands c.args.attempt.now _ _ c.attempt_in.ensures c.in-Attempt.is in
+    omega (arith, answered-length _ c.in-Attempt.given held)
 
 pub slice_bounds-store-count : goal.slice_bounds-store-count
 slice_bounds-store-count c =
-    let stands = stands c.args.attempt.now _ _ c.attempt_in.ensures c.in-Attempt.is in
-    omega (arith, answered-length _ c.in-Attempt.given stands)
+    let held = stands c.args.attempt.now _ _ c.attempt_in.ensures c.in-Attempt.is in
+    omega (arith, answered-length _ c.in-Attempt.given held)
 
 pub store-requires : goal.store-requires
 store-requires c =
@@ -52,9 +52,9 @@ pub returns-in-Attempt : goal.returns-in-Attempt
 returns-in-Attempt c =
     let a = c.args in
     let are = is-some (records_in 8 a.records.now) (sym c.are_records.ensures ∙ c.if-not-are_records.false) in
-    let stands = stands a.attempt.now _ _ c.attempt_in.ensures c.in-Attempt.is in
+    let held = stands a.attempt.now _ _ c.attempt_in.ensures c.in-Attempt.is in
     subst (λ (s : Said Kept). Keeps s a.records.now a.answer.now c.store.result c.store.new.records c.store.new.answer)
-    (sym (store_given a.sheet.now a.attempt.now a.records.now are.0 are.1 _ stands))
+    (sym (store_given a.sheet.now a.attempt.now a.records.now are.0 are.1 _ held))
     (c.store.ensures are.0 are.1)
 
 pub returns-in-Nothing : goal.returns-in-Nothing

@@ -1,9 +1,7 @@
 -- `reception::store_lent` meets its contract: what is said of the stream's own record, which is one of the eight where a store takes. Assumes
 -- nothing.
-use mathlib.Core.Path.{◌≡◌, sym, ap, ◌∙◌}
-use Rattle.sheet.specs.Value.{sheet_in}
-use Rattle.streams.specs.Record.{own}
-use Rattle.reception.specs.Steps.{reply_of, stored, store_of, taking_said, attempt_said}
+use mathlib.Core.Path.{sym, ap, ◌∙◌}
+use Rattle.reception.specs.Steps.{stored, store_of, taking_said}
 use Rattle.reception.proofs.Laws.Steps.{reply-below}
 use Rattle.reception.proofs.store_lent.Goals as goal
 

@@ -32,10 +32,10 @@ shape_of-out c =
 
 pub returns : goal.returns
 returns c =
-    let a = c.before.before.before.before.before.before.before.before.before.before in
-    let room = simp length-append at a.requires in
+    let a = c.args in
+    let room = simp length-append at c.requires in
     let o = c.put_octets.ensures in
     let p = c.put-end.ensures in (
-      rw (p.0, o, p.1) (set-put_at-then a.args.out.now a.args.at a.args.name.now (decimal a.args.n) 10 (omega arith)),
+      rw (p.0, o, p.1) (set-put_at-then a.out.now a.at a.name.now (decimal a.n) 10 (omega arith)),
       simp length-append (omega arith),
     )

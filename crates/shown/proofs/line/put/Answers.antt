@@ -32,20 +32,18 @@ slice_bounds-put-end c =
 
 pub put-requires : goal.put-requires
 put-requires c =
-    let read = c.before.before in
-    let packet = read.before.before.before in
-    let a = packet.args in
-    rw (read.read_by-reading.ensures, ← line_by-packet a.numbers a.line.now packet.packet_in-packet.result packet.packet_in-packet.ensures)
+    let a = c.args in
+    let packet = c.packet_in-packet in
+    rw (c.read_by-reading.ensures, ← line_by-packet a.numbers a.line.now packet.result packet.ensures)
     (omega (arith, (line_fits a.numbers a.line.now).1))
 
 pub returns : goal.returns
 returns c =
-    let read = c.before.before.before.before.before in
-    let packet = read.before.before.before in
-    let a = packet.args in
+    let a = c.args in
+    let packet = c.packet_in-packet in
     rw (
       fitting-whole (line_room a.line.now) (length a.out.now) a.at (line_by a.numbers a.line.now) (omega arith),
-      line_by-packet a.numbers a.line.now packet.packet_in-packet.result packet.packet_in-packet.ensures,
-      ← read.read_by-reading.ensures,
+      line_by-packet a.numbers a.line.now packet.result packet.ensures,
+      ← c.read_by-reading.ensures,
     )
     c.put.ensures

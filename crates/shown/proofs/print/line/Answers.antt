@@ -20,8 +20,7 @@ slice_bounds-reading-end c =
 
 pub returns : goal.returns
 returns c =
-    let read = c.before.before.before.before.before in
-    let packet = read.before.before.before in
-    let args = packet.args in
-    rw (line_by-packet args.numbers args.line.now packet.packet_in-packet.result packet.packet_in-packet.ensures, ← read.read_by-said.ensures)
+    let args = c.args in
+    let packet = c.packet_in-packet in
+    rw (line_by-packet args.numbers args.line.now packet.result packet.ensures, ← c.read_by-said.ensures)
     c.reading.ensures

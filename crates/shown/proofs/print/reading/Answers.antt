@@ -13,16 +13,16 @@ use Rattle.shown.proofs.print.reading.Goals as goal
 
 pub returns-then-out-length_of : goal.returns-then-out-length_of
 returns-then-out-length_of c =
-    let start = c.before.before.before.before in
-    let text = text_of start.args.packet.now (read_said start.args.reading) in
-    let short : length start.args.out.now < length text = omega arith in
-    rw (lt-leb (length text) (length start.args.out.now) short) (refl, refl)
+    let a = c.args in
+    let text = text_of a.packet.now (read_said a.reading) in
+    let short : length a.out.now < length text = omega arith in
+    rw (lt-leb (length text) (length a.out.now) short) (refl, refl)
 
 pub returns : goal.returns
 returns c =
-    let start = c.before.before.before.before.before.before.before.before in
-    let out = start.args.out.now in
-    let text = text_of start.args.packet.now (read_said start.args.reading) in
+    let a = c.args in
+    let out = a.out.now in
+    let text = text_of a.packet.now (read_said a.reading) in
     let put = c.put.ensures in
     let room : length text ≤ length out = omega arith in
     rw (le-leb (length text) (length out) room) (ap Printed (put.1 ∙ zero-add (length text)), put.0 ∙ sym (over-put_at text out room))

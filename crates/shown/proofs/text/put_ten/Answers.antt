@@ -7,24 +7,20 @@ use Rattle.shown.proofs.text.put_ten.Goals as goal
 
 pub put-end-requires : goal.put-end-requires
 put-end-requires c =
-    let start = c.before.before.before in
-    omega (arith, length-ten_line start.args.packet.now start.args.row)
+    omega (arith, length-ten_line c.args.packet.now c.args.row)
 
 pub bounds-out-end : goal.bounds-out-end
 bounds-out-end c =
-    let start = c.before.before.before.before.before.before in
     let put = c.put-end.ensures in
-    rw (put.0, put.1, length-put_at) (omega (arith, start.requires, length-ten_line start.args.packet.now start.args.row))
+    rw (put.0, put.1, length-put_at) (omega (arith, c.requires, length-ten_line c.args.packet.now c.args.row))
 
 pub overflow_add-result : goal.overflow_add-result
 overflow_add-result c =
-    let start = c.before.before.before.before.before.before in
-    omega (arith, c.put-end.ensures.1, start.requires, length-ten_line start.args.packet.now start.args.row)
+    omega (arith, c.put-end.ensures.1, c.requires, length-ten_line c.args.packet.now c.args.row)
 
 pub returns : goal.returns
 unfolding ten_line
 returns c =
-    let start = c.before.before.before.before.before.before in
     let put = c.put-end.ensures in
-    let line = length-ten_line start.args.packet.now start.args.row in
-    (rw (put.0, put.1) (set-put_at start.args.out.now start.args.at (values_from start.args.packet.now start.args.row 0) 10 (omega arith)), omega arith)
+    let line = length-ten_line c.args.packet.now c.args.row in
+    (rw (put.0, put.1) (set-put_at c.args.out.now c.args.at (values_from c.args.packet.now c.args.row 0) 10 (omega arith)), omega arith)

@@ -12,9 +12,8 @@ loop-k-init c = (omega arith, rw names_from-all (omega arith), omega arith)
 
 pub loop-k-preserved : goal.loop-k-preserved
 loop-k-preserved c =
-    let at-loop = c.before.before.before in
-    let args = at-loop.args in
-    let k = at-loop.loop-k.k in
+    let args = c.args in
+    let k = c.loop-k.k in
     let n : length args.row ≡ 12 = omega arith in
     let names = names_from-next k (omega arith) in
     let text = rw c.value_in.ensures at c.value_length-length.ensures.0 in

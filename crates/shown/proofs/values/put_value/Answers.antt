@@ -18,8 +18,7 @@ put-requires c = rw c.in-Given.is at c.requires
 pub returns-in-Absent : goal.returns-in-Absent
 unfolding value_text
 returns-in-Absent c =
-    let start = c.before.before.before.before in
-    rw c.in-Absent.is (sym (put_at-one start.args.out.now start.args.at 45), refl)
+    rw c.in-Absent.is (sym (put_at-one c.args.out.now c.args.at 45), refl)
 
 pub returns-in-Given : goal.returns-in-Given
 unfolding value_text
@@ -28,5 +27,4 @@ returns-in-Given c = rw c.in-Given.is c.put.ensures
 pub returns-in-Named : goal.returns-in-Named
 unfolding value_text
 returns-in-Named c =
-    let name = c.before.before.before.before in
-    rw (name.in-Named.is, ← name.name_in-name.ensures) (c.put_octets.ensures, refl)
+    rw (c.in-Named.is, ← c.name_in-name.ensures) (c.put_octets.ensures, refl)

@@ -17,7 +17,6 @@ returns-in-Given c = rw c.in-Given.is (c.length_of.ensures.0, omega arith)
 pub returns-in-Named : goal.returns-in-Named
 unfolding value_text
 returns-in-Named c =
-    let start = c.before.before.before.before in
-    let value = start.args.value in
-    let n = min-le_left value.len (length (drop value.n start.args.packet.now)) in
+    let value = c.args.value in
+    let n = min-le_left value.len (length (drop value.n c.args.packet.now)) in
     rw c.in-Named.is (ap length c.name_in.ensures, rw (c.name_in.ensures, length-take) (omega arith))
