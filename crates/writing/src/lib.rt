@@ -1,5 +1,6 @@
 // A message written as an RTCP APP packet of MCVideo (document 01, "Packet"; RFC 3550, 6.7).
 #![tactic(auto)]
+
 mod field_writer;
 mod front;
 

@@ -1,9 +1,7 @@
 -- `writing::write_by` meets its contract: what is planned of the message is written, or its refusal given (`writes-plan`, `writes-none`).
 -- Assumes nothing.
-use mathlib.Core.Path.{◌≡◌, refl}
+use mathlib.Core.Path.{refl}
 use lib.ListN.{length}
-use Rattle.packet.specs.Row.{message_in}
-use Rattle.plan.specs.Plan.{plan_said, plan_of}
 use Rattle.plan.proofs.Laws.Claims.{plans_the_packet}
 use Rattle.writing.specs.Writing.{told, after}
 use Rattle.writing.proofs.Laws.Planned.{writes-plan, writes-none}

@@ -1,6 +1,5 @@
 -- `writing::write_plan` meets its contract: a plan that is right has a packet as long as its size says, which goes into the buffer as its
 -- header and then, into the part behind it, its fields; where there is less room the attribute's law says so. Assumes nothing.
-use Prim.Native.Nat.{◌+◌, ◌-◌, ◌≤◌, ◌<◌}
 use native.Mathlib.Omega.{arith}
 use lib.ListN.{length, length-take, length-drop}
 use Rattle.octets.proofs.Buffer.{part-over}
