@@ -75,12 +75,21 @@ returns-then-refusal-ne0 c =
     (rw (sheet a.held _ _ c.length_of-len.ensures c.read-reading.ensures) at c.if-refusal-ne0.true))
     (record { done = rw (c.refused.ensures, put.1); put = put.0 })
 
+-- the text is as long as what is held
+long : (h : Held) (n : ℕ) → n ≡ length (held_in h) → length (take n h.octets) ≡ n
+long h n e = length-take-le n h.octets (omega (arith, held-within h, e))
+
 pub slice_bounds-put_lines-count : goal.slice_bounds-put_lines-count
 slice_bounds-put_lines-count c =
     let h = c.args.held in
-    let long : length (take c.length_of-len.result h.octets) ≡ c.length_of-len.result =
-    length-take-le _ h.octets (omega (arith, held-within h, c.length_of-len.ensures)) in
-    omega (arith, within h _ _ c.length_of-len.ensures c.read-reading.ensures, long)
+    let n = c.length_of-len.ensures in
+    omega (arith, within h _ _ n c.read-reading.ensures, long h _ n)
+
+pub slice_bounds-put_lines-start : goal.slice_bounds-put_lines-start
+slice_bounds-put_lines-start c =
+    let h = c.args.held in
+    let n = c.length_of-len.ensures in
+    omega (arith, within h _ _ n c.read-reading.ensures, long h _ n)
 
 -- the lines behind the sheet are printed, and the last of them is held
 lines : (c : After-put_lines-kept)
