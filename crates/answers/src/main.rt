@@ -2,6 +2,7 @@
 // How cases come and answers go: `asked`. What may be asked, 1 to 8, 13 and 14, and what then stands in a case and in its answer: question.rt, from
 // 13 on control.rt. Questions that have several items are taken apart in items.rt. Questions 9 to 12 are those of `schedules`.
 #![tactic(auto)]
+
 mod buffer;
 mod control;
 mod items;
