@@ -1,6 +1,7 @@
 // What `mcvlook` prints for a line (document 01, "Bench program"): a packet in hex comes in, and out goes a line of text, its ten values or its
 // refusal; and the line for a sheet that is refused.
 #![tactic(auto)]
+
 mod decimal;
 pub mod line;
 pub mod print;
