@@ -6,12 +6,12 @@ use Rattle.std.proofs.Math.Option.{Option, none, some}
 use Rattle.octets.specs.Choice.{pick}
 use Rattle.sheet.specs.Value.{sheet_in, valid_alone}
 use Rattle.sheet_text.specs.declared.Reading.{Reading}
-use Rattle.sheet_text.specs.Reading.{read_of as sheetRead}
-use Rattle.fields.specs.Walk.{Stepped, field, end, refused as stepRefused, step_of}
+use Rattle.sheet_text.specs.Reading.{read_of as sheet_read}
+use Rattle.fields.specs.Walk.{Stepped, field, end, refused as step_refused, step_of}
 use Rattle.kinds.specs.Reading.{Outcome, reads, refused}
-use Rattle.kinds.specs.Reading.{read_of as packetRead}
+use Rattle.kinds.specs.Reading.{read_of as packet_read}
 use Rattle.packet.specs.Row.{message_row, message_in}
-use Rattle.writing.specs.Writing.{Made, made, refused as notMade, write_of}
+use Rattle.writing.specs.Writing.{Made, made, refused as not_made, write_of}
 use Rattle.streams.specs.declared.Record.{Record}
 use Rattle.streams.specs.declared.Event.{Event}
 use Rattle.streams.specs.Record.{own}
@@ -34,7 +34,7 @@ standing number (some x) next = next x
 -- a sheet that was read, or 12 with its line
 unfoldable pub sheet_says : List ℕ → Said Reading
 sheet_says text =
-    let r = sheetRead text in
+    let r = sheet_read text in
     pick (eqb r.refusal.number 0) (gives r) (refuses r.refusal.number r.refusal.at)
 
 abbrev pub outcome_says : Outcome → Said (List ℕ)
@@ -42,12 +42,12 @@ outcome_says (reads kind ssrc ack values) = gives (message_row (reads kind ssrc 
 outcome_says (refused number at) = refuses number at
 
 unfoldable pub read_says : List ℕ → List ℕ → Said (List ℕ)
-read_says sheet packet = outcome_says (packetRead (sheet_in sheet) packet)
+read_says sheet packet = outcome_says (packet_read (sheet_in sheet) packet)
 
 -- the packet that is written
 abbrev pub made_says : Made → Said (List ℕ)
 made_says (made p) = gives p
-made_says (notMade number) = refuses number 0
+made_says (not_made number) = refuses number 0
 
 unfoldable pub write_says : List ℕ → List ℕ → List ℕ → ℕ → Said (List ℕ)
 write_says sheet message names room = made_says (write_of (sheet_in sheet) (message_in message) names room)
@@ -56,7 +56,7 @@ write_says sheet message names room = made_says (write_of (sheet_in sheet) (mess
 abbrev pub step_says : ℕ → Stepped → Said (List ℕ)
 step_says place (field f) = check (ltb f.next (2 ^ 32)) 4 (gives (field_row f))
 step_says place end = gives (end_row place)
-step_says place (stepRefused number at) = refuses number at
+step_says place (step_refused number at) = refuses number at
 
 unfoldable pub field_says : List ℕ → ℕ → Said (List ℕ)
 field_says packet place = step_says place (step_of packet place)

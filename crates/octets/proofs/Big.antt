@@ -135,22 +135,22 @@ big_of-inj w m n h l e =
 
 module _ (s : List ℕ) (octets : (i : ℕ) → get_or s i 0 < 256) where
   -- the octets at a place are those of the number that they make
-  pub bigOf-bigAt : (w at : ℕ) → at + w ≤ length s → big_of w (big_at w s at) ≡ take w (drop at s)
+  pub big_of-big_at : (w at : ℕ) → at + w ≤ length s → big_of w (big_at w s at) ≡ take w (drop at s)
   unfolding big_of big_at
-  bigOf-bigAt zero at h = refl
-  bigOf-bigAt (suc w) at h =
+  big_of-big_at zero at h = refl
+  big_of-big_at (suc w) at h =
       let l : w < length (drop at s) = rw length-drop (omega arith) in
-      rw (digits_div (big_at w s at) (octets (at + w)), digits_mod (big_at w s at) (octets (at + w)), bigOf-bigAt w at (omega arith), take-suc (drop at s) w 0 l, get_or-drop)
+      rw (digits_div (big_at w s at) (octets (at + w)), digits_mod (big_at w s at) (octets (at + w)), big_of-big_at w at (omega arith), take-suc (drop at s) w 0 l, get_or-drop)
 
   -- so they are given ones exactly if their number is the given ones'
-  pub same-bigOf : (w at n : ℕ) → at + w ≤ length s → n < 256 ^ w → same (take w (drop at s)) (big_of w n) ≡ eqb (big_at w s at) n
-  same-bigOf w at n h l =
+  pub same-big_of : (w at n : ℕ) → at + w ≤ length s → n < 256 ^ w → same (take w (drop at s)) (big_of w n) ≡ eqb (big_at w s at) n
+  same-big_of w at n h l =
       test-eq (same (take w (drop at s)) (big_of w n)) (eqb (big_at w s at) n)
       (λ t. true-T (eqb (big_at w s at) n)
-      (eq-eqb (big_at w s at) n (big_of-inj w (big_at w s at) n (big_at-lt w s at octets) l (bigOf-bigAt w at h ∙ same-eq (take w (drop at s)) (big_of w n) t))))
-      (λ t. eq-same (take w (drop at s)) (big_of w n) (sym (bigOf-bigAt w at h) ∙ ap (big_of w) (eqb→eq (big_at w s at) n t)))
+      (eq-eqb (big_at w s at) n (big_of-inj w (big_at w s at) n (big_at-lt w s at octets) l (big_of-big_at w at h ∙ same-eq (take w (drop at s)) (big_of w n) t))))
+      (λ t. eq-same (take w (drop at s)) (big_of w n) (sym (big_of-big_at w at h) ∙ ap (big_of w) (eqb→eq (big_at w s at) n t)))
 
 -- what is left from a place on: the octets of the number there, then what is left behind them
 pub drop-big_at : (s : List ℕ) → ((i : ℕ) → get_or s i 0 < 256) → (w at : ℕ) → at + w ≤ length s
     → drop at s ≡ big_of w (big_at w s at) ++ drop (at + w) s
-drop-big_at s o w at h = sym (take-append-drop w (drop at s)) ∙ rw (drop-drop, bigOf-bigAt s o w at h)
+drop-big_at s o w at h = sym (take-append-drop w (drop at s)) ∙ rw (drop-drop, big_of-big_at s o w at h)

@@ -14,7 +14,7 @@ use borrow.Author.Tests.{le-leb, lt-leb}
 use Rattle.octets.specs.Choice.{same}
 use Rattle.octets.specs.Buffer.{over, put_at, zeros_from, padded}
 use Rattle.octets.specs.Big.{big_of}
-use Rattle.octets.proofs.Choice.{le-or-lt, test-eq, same-eq, eq-same, every-getD, getD-every, every-replicate}
+use Rattle.octets.proofs.Choice.{le-or-lt, test-eq, same-eq, eq-same, every-get_or, get_or-every, every-replicate}
 use Rattle.octets.proofs.Big.{length-big_of, big_of-add}
 use Rattle.octets.proofs.Lists.{drop-replicate}
 
@@ -180,33 +180,33 @@ put_at-big_of-add v w s at n h =
 -- ---- zeros to the end
 
 -- each octet from the place on is zero
-pub zeros_from-get_d : (s : List ℕ) (at i : ℕ) → T (zeros_from s at) → at ≤ i → get_or s i 0 ≡ 0
+pub zeros_from-get_or : (s : List ℕ) (at i : ℕ) → T (zeros_from s at) → at ≤ i → get_or s i 0 ≡ 0
 unfolding zeros_from
-zeros_from-get_d s at i t h =
+zeros_from-get_or s at i t h =
     ⊎_elim
     (λ l. get_or-eq_default s 0 l)
     (λ (l : i < length s). eqb→eq (get_or s i 0) 0
-    (rw (get_or-drop, add-sub_of_le h) at (every-getD (λ (x : ℕ). eqb x 0) (drop at s) (i - at) 0 t (rw length-drop (omega arith)))))
+    (rw (get_or-drop, add-sub_of_le h) at (every-get_or (λ (x : ℕ). eqb x 0) (drop at s) (i - at) 0 t (rw length-drop (omega arith)))))
     (le-or-lt (length s) i)
 
 -- where each is zero, the test holds
-pub get_d-zeros_from : (s : List ℕ) (at : ℕ) → ((i : ℕ) → at ≤ i → i < length s → get_or s i 0 ≡ 0) → T (zeros_from s at)
+pub get_or-zeros_from : (s : List ℕ) (at : ℕ) → ((i : ℕ) → at ≤ i → i < length s → get_or s i 0 ≡ 0) → T (zeros_from s at)
 unfolding zeros_from
-get_d-zeros_from s at h =
-    getD-every (λ (x : ℕ). eqb x 0) (drop at s) 0
+get_or-zeros_from s at h =
+    get_or-every (λ (x : ℕ). eqb x 0) (drop at s) 0
     (λ i l. rw (get_or-drop, h (at + i) (omega arith) (omega (arith, length-drop at s))) tt)
 
 -- ---- a list filled up to n elements
 
-get_d-replicate-self {ℓ} : {A : Type ℓ} (k i : ℕ) (a : A) → get_or (replicate k a) i a ≡ a
-get_d-replicate-self zero i a = refl
-get_d-replicate-self (suc k) zero a = refl
-get_d-replicate-self (suc k) (suc i) a = get_d-replicate-self k i a
+get_or-replicate-self {ℓ} : {A : Type ℓ} (k i : ℕ) (a : A) → get_or (replicate k a) i a ≡ a
+get_or-replicate-self zero i a = refl
+get_or-replicate-self (suc k) zero a = refl
+get_or-replicate-self (suc k) (suc i) a = get_or-replicate-self k i a
 
-get_d-append-replicate {ℓ} : {A : Type ℓ} (xs : List A) (k i : ℕ) (a : A) → get_or (xs ++ replicate k a) i a ≡ get_or xs i a
-get_d-append-replicate [] k i a = get_d-replicate-self k i a
-get_d-append-replicate (x ∷ xs) k zero a = refl
-get_d-append-replicate (x ∷ xs) k (suc i) a = get_d-append-replicate xs k i a
+get_or-append-replicate {ℓ} : {A : Type ℓ} (xs : List A) (k i : ℕ) (a : A) → get_or (xs ++ replicate k a) i a ≡ get_or xs i a
+get_or-append-replicate [] k i a = get_or-replicate-self k i a
+get_or-append-replicate (x ∷ xs) k zero a = refl
+get_or-append-replicate (x ∷ xs) k (suc i) a = get_or-append-replicate xs k i a
 
 module _ {ℓ} {A : Type ℓ} (n : ℕ) (a : A) where
   -- from nothing
@@ -235,9 +235,9 @@ module _ {ℓ} {A : Type ℓ} (n : ℕ) (a : A) where
   drop-padded xs = drop-append_seam xs (replicate (n - length xs) a)
 
   -- what fills it up is the default
-  pub getD-padded : (xs : List A) (i : ℕ) → get_or (padded n a xs) i a ≡ get_or xs i a
+  pub get_or-padded : (xs : List A) (i : ℕ) → get_or (padded n a xs) i a ≡ get_or xs i a
   unfolding padded
-  getD-padded xs i = get_d-append-replicate xs (n - length xs) i a
+  get_or-padded xs i = get_or-append-replicate xs (n - length xs) i a
 
   -- a store just past the elements
   pub set-padded : (xs : List A) (y : A) → length xs < n → set (padded n a xs) (length xs) y ≡ padded n a (xs ++ (y ∷ []))
@@ -256,10 +256,10 @@ pub padded-zeros_from : (s : List ℕ) (at : ℕ) → T (zeros_from s at) → at
 padded-zeros_from s at t h =
     let l : length (take at s) ≡ at = length-take-le at s h in
     ext_get_or 0 (padded (length s) 0 (take at s)) s (length-padded (length s) 0 (take at s) (omega arith))
-    (λ i _. getD-padded (length s) 0 (take at s) i ∙ ⊎_elim (past i) (λ before. get_or-take at s i 0 before) (le-or-lt at i))
+    (λ i _. get_or-padded (length s) 0 (take at s) i ∙ ⊎_elim (past i) (λ before. get_or-take at s i 0 before) (le-or-lt at i))
   where
     past : (i : ℕ) → at ≤ i → get_or (take at s) i 0 ≡ get_or s i 0
-    past i h' = rw (get_or-eq_default (take at s) 0 {n = i} (omega (arith, length-take-le at s h)), zeros_from-get_d s at i t h')
+    past i h' = rw (get_or-eq_default (take at s) 0 {n = i} (omega (arith, length-take-le at s h)), zeros_from-get_or s at i t h')
 
 -- a list is its front filled up with zeros exactly if zeros stand behind the front
 pub same-padded : (s : List ℕ) (at : ℕ) → at ≤ length s → same s (padded (length s) 0 (take at s)) ≡ zeros_from s at

@@ -215,22 +215,22 @@ module _ {ℓ} {A : Type ℓ} (p : A → Bool) where
   every-replicate (suc n) a t = T_and (p a) (every p (replicate n a)) t (every-replicate n a t)
 
   -- it holds of each element, so at each index
-  pub every-getD : (xs : List A) (i : ℕ) (d : A) → T (every p xs) → i < length xs → T (p (get_or xs i d))
-  every-getD [] i d t h = absurd (not-suc-le-zero h)
-  every-getD (x ∷ xs) zero d t h = T-and-left (p x) (every p xs) t
-  every-getD (x ∷ xs) (suc i) d t h = every-getD xs i d (T-and-right (p x) (every p xs) t) (le_of_suc-le-suc h)
+  pub every-get_or : (xs : List A) (i : ℕ) (d : A) → T (every p xs) → i < length xs → T (p (get_or xs i d))
+  every-get_or [] i d t h = absurd (not-suc-le-zero h)
+  every-get_or (x ∷ xs) zero d t h = T-and-left (p x) (every p xs) t
+  every-get_or (x ∷ xs) (suc i) d t h = every-get_or xs i d (T-and-right (p x) (every p xs) t) (le_of_suc-le-suc h)
 
   -- and of what stands for an element past the end
-  pub every-getD-or : (xs : List A) (i : ℕ) (d : A) → T (every p xs) → T (p d) → T (p (get_or xs i d))
-  every-getD-or [] i d t s = s
-  every-getD-or (x ∷ xs) zero d t s = T-and-left (p x) (every p xs) t
-  every-getD-or (x ∷ xs) (suc i) d t s = every-getD-or xs i d (T-and-right (p x) (every p xs) t) s
+  pub every-get_or-or : (xs : List A) (i : ℕ) (d : A) → T (every p xs) → T (p d) → T (p (get_or xs i d))
+  every-get_or-or [] i d t s = s
+  every-get_or-or (x ∷ xs) zero d t s = T-and-left (p x) (every p xs) t
+  every-get_or-or (x ∷ xs) (suc i) d t s = every-get_or-or xs i d (T-and-right (p x) (every p xs) t) s
 
   -- the test holds at each index, so of each element
-  pub getD-every : (xs : List A) (d : A) → ((i : ℕ) → i < length xs → T (p (get_or xs i d))) → T (every p xs)
-  getD-every [] d h = tt
-  getD-every (x ∷ xs) d h =
-      T_and (p x) (every p xs) (h zero (zero-lt-suc (length xs))) (getD-every xs d (λ i l. h (suc i) (suc-le-suc l)))
+  pub get_or-every : (xs : List A) (d : A) → ((i : ℕ) → i < length xs → T (p (get_or xs i d))) → T (every p xs)
+  get_or-every [] d h = tt
+  get_or-every (x ∷ xs) d h =
+      T_and (p x) (every p xs) (h zero (zero-lt-suc (length xs))) (get_or-every xs d (λ i l. h (suc i) (suc-le-suc l)))
 
 -- a test that holds of each element holds of each that is left
 pub every_drop : {A : Type 0} (p : A → Bool) (n : ℕ) (l : List A) → T (every p l) → T (every p (drop n l))
@@ -315,10 +315,10 @@ module _ (p : ℕ → Bool) where
 
 module _ {ℓ} {A : Type ℓ} (p : A → Bool) where
   -- it holds at an index, so of some element
-  pub some-of-getD : (xs : List A) (i : ℕ) (d : A) → i < length xs → T (p (get_or xs i d)) → T (some_of p xs)
-  some-of-getD [] i d h t = absurd (not-suc-le-zero h)
-  some-of-getD (x ∷ xs) zero d h t = T-or-left (p x) (some_of p xs) t
-  some-of-getD (x ∷ xs) (suc i) d h t = T-or-right (p x) (some_of p xs) (some-of-getD xs i d (le_of_suc-le-suc h) t)
+  pub some-of-get_or : (xs : List A) (i : ℕ) (d : A) → i < length xs → T (p (get_or xs i d)) → T (some_of p xs)
+  some-of-get_or [] i d h t = absurd (not-suc-le-zero h)
+  some-of-get_or (x ∷ xs) zero d h t = T-or-left (p x) (some_of p xs) t
+  some-of-get_or (x ∷ xs) (suc i) d h t = T-or-right (p x) (some_of p xs) (some-of-get_or xs i d (le_of_suc-le-suc h) t)
 
   -- the test fails at each index, so of each element
   pub some-of-false : (xs : List A) (d : A) → ((i : ℕ) → i < length xs → p (get_or xs i d) ≡ false) → some_of p xs ≡ false

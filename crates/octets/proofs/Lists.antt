@@ -27,10 +27,10 @@ listed-drop n at l e =
     listed-take n at l (omega arith) ∙ take_all n (drop at l) (omega arith)
 
 -- below the end the default does not matter
-pub get_d_default {ℓ} : {A : Type ℓ} (l : List A) (i : ℕ) (d e : A) → i < length l → get_or l i d ≡ get_or l i e
-get_d_default [] i d e h = absurd (not-suc-le-zero h)
-get_d_default (x ∷ l) zero d e h = refl
-get_d_default (x ∷ l) (suc i) d e h = get_d_default l i d e (le_of_suc-le-suc h)
+pub get_or_default {ℓ} : {A : Type ℓ} (l : List A) (i : ℕ) (d e : A) → i < length l → get_or l i d ≡ get_or l i e
+get_or_default [] i d e h = absurd (not-suc-le-zero h)
+get_or_default (x ∷ l) zero d e h = refl
+get_or_default (x ∷ l) (suc i) d e h = get_or_default l i d e (le_of_suc-le-suc h)
 
 -- ---- map, take, drop, replicate, slice
 

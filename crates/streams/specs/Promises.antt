@@ -64,11 +64,11 @@ is_legal-once rules stream own x y p q = one_value x y p q
 -- the cause of a message, 0 where it has none
 abbrev cause_in : Option Sent → ℕ
 cause_in none = 0
-cause_in (some m) = causeOr m.cause
+cause_in (some m) = cause_or m.cause
   where
-    causeOr : Option ℕ → ℕ
-    causeOr none = 0
-    causeOr (some c) = c
+    cause_or : Option ℕ → ℕ
+    cause_or none = 0
+    cause_or (some c) = c
 
 abbrev grant_back : List Timer → Answer
 grant_back [] = GrantedAgain

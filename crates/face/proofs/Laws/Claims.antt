@@ -14,7 +14,7 @@ use Rattle.sheet.specs.Value.{sheet_in, numbers_of, valid_alone, valid_with}
 use Rattle.sheet.proofs.Laws.Laid.{laid-valid}
 use Rattle.sheet.proofs.Laws.Values.{sheet_in-own}
 use Rattle.sheet_text.specs.declared.Reading.{Reading}
-use Rattle.sheet_text.specs.Reading.{Outcome as SheetOutcome, reads as sheetReads, refused as sheetRefused, outcome}
+use Rattle.sheet_text.specs.Reading.{Outcome as SheetOutcome, reads as sheet_reads, refused as sheet_refused, outcome}
 use Rattle.sheet_text.specs.Reading.{reading_of, users_from, read_of, users_in}
 use Rattle.sheet_text.proofs.Laws.Readings.{outcome-reads}
 use Rattle.kinds.specs.Reading.{Outcome, refused}
@@ -46,8 +46,8 @@ sheet-given text x =
 read-valid : (text : List ℕ) (o : SheetOutcome) → outcome text ≡ o → (reading_of o).refusal.number ≡ 0
     → T (valid_with (reading_of o).sheet (users_from o))
 unfolding reading_of users_from
-read-valid text (sheetReads es) e z = laid-valid es (outcome-reads text es e).0
-read-valid text (sheetRefused k) e z = absurd (omega arith)
+read-valid text (sheet_reads es) e z = laid-valid es (outcome-reads text es e).0
+read-valid text (sheet_refused k) e z = absurd (omega arith)
 
 pub sheets_stand : SheetsStand
 unfolding read_of users_in numbers_of most_seats

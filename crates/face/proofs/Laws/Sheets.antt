@@ -17,7 +17,7 @@ use Rattle.octets.proofs.Buffer.{length-padded}
 use Rattle.sheet.specs.Table.{table, seat_row, number_lines, most_seats}
 use Rattle.sheet.specs.Judge.{Entry, numbers_in, good, in_turn, whole}
 use Rattle.sheet.specs.Value.{sheet_by, sheet_from, sheet_of, numbers_of}
-use Rattle.sheet.proofs.Laws.Entries.{inTurn-snoc, length-numbers_in, numbers_in-append, Open, open_more, good-numbers}
+use Rattle.sheet.proofs.Laws.Entries.{in_turn-snoc, length-numbers_in, numbers_in-append, Open, open_more, good-numbers}
 use Rattle.sheet.proofs.Laws.Fresh.{seats_bound}
 use Rattle.sheet.proofs.Laws.Laid.{valid-good, valid-length}
 use Rattle.sheet_text.specs.declared.Reading.{Reading}
@@ -55,7 +55,7 @@ line-most (suc f) b s t o =
     pick-cases P (whole (numbers_in b)) (reads b) (pick (good_line b s) more (refused (length b + 1)))
     (λ _. omega arith)
     (λ w. pick-cases P (good_line b s) more (refused (length b + 1))
-    (λ g. line-most f (b ++ (e ∷ [])) (behind b s) (inTurn-snoc good b e t (good_line-good b s g))
+    (λ g. line-most f (b ++ (e ∷ [])) (behind b s) (in_turn-snoc good b e t (good_line-good b s g))
     (subst Open (sym (numbers_in-append b (e ∷ []))) (open_more (numbers_in b) e.number o w)))
     (λ _. omega (arith, few-lines b t o)))
 

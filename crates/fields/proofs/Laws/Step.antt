@@ -29,24 +29,24 @@ next_at-by p q at e = rw e
 
 module _ (p : List ℕ) (at next : ℕ) (is : next ≡ next_at p at) (ends : next ≤ length p) where
   -- the field's first word is among them
-  get_d_part : (i : ℕ) → i < at + 4 → get_or (take next p) i 0 ≡ get_or p i 0
-  get_d_part i h = get_or-take next p i 0 (omega (arith, next-after p at))
+  get_or_part : (i : ℕ) → i < at + 4 → get_or (take next p) i 0 ≡ get_or p i 0
+  get_or_part i h = get_or-take next p i 0 (omega (arith, next-after p at))
 
   -- it ends where it did
   next-part : next_at (take next p) at ≡ next
-  next-part = next_at-by (take next p) p at (get_d_part (at + 1) (omega arith)) ∙ sym is
+  next-part = next_at-by (take next p) p at (get_or_part (at + 1) (omega arith)) ∙ sym is
 
   -- its padding is what it was
   padding-part : padding (take next p) at ≡ padding p at
   padding-part =
-      let start = value_end-by (take next p) p at (get_d_part (at + 1) (omega arith)) in
+      let start = value_end-by (take next p) p at (get_or_part (at + 1) (omega arith)) in
       rw (padding-slice (take next p) at, next-part, start, take-take next next p (omega arith), padding-slice p at, is)
 
   -- it is right if it was
   right-part : field_right (take next p) at ≡ field_right p at
   unfolding field_right
   right-part =
-      rw (get_d_part at (omega arith), next-part, padding-part, length-take-le next p ends, ← is, le-leb next next (omega arith), le-leb next (length p) ends)
+      rw (get_or_part at (omega arith), next-part, padding-part, length-take-le next p ends, ← is, le-leb next next (omega arith), le-leb next (length p) ends)
 
   -- the walk stops behind a right field, and before a wrong one
   pub stop-part : stop_from (take next p) at ≡ past_field p at

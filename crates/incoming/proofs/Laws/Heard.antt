@@ -7,7 +7,7 @@ use lib.ListN.{length, take, drop, get_or, get_or-map}
 use lib.Dec.{T, leb, leb→le, eqb}
 use borrow.Author.Tests.{le-leb}
 use Rattle.octets.specs.Choice.{pick}
-use Rattle.octets.proofs.Choice.{T_true, true-T, T-and-left, every-getD-or}
+use Rattle.octets.proofs.Choice.{T_true, true-T, T-and-left, every-get_or-or}
 use Rattle.sheet.specs.declared.Sheet.{Sheet}
 use Rattle.seats.specs.declared.Senders.{Senders}
 use Rattle.sheet.specs.Judge.{user_id}
@@ -113,7 +113,7 @@ asks_right p (refused number at) t = tt
 asks_right p (reads kind ssrc ack held) t = by (eqb kind 1) (eqb kind 3) (eqb kind 6)
   where
     at : (k : ℕ) → T (name_right p (get_or held k absent))
-    at k = unfold name_right in every-getD-or (name_right p) held k absent t tt
+    at k = unfold name_right in every-get_or-or (name_right p) held k absent t tt
 
     by : (one three six : Bool)
         → AsksRight p

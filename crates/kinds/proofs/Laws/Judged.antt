@@ -22,7 +22,7 @@ use Rattle.kinds.specs.Judge.{fits, number_at, fields_with, grant_in, granted, a
 use Rattle.kinds.specs.Found.{places_in}
 use Rattle.kinds.specs.Inner.{Walked, JudgedIs, PlacesInside, placed, open_in, lack_in}
 use Rattle.kinds.proofs.Laws.Slots.{blank}
-use Rattle.kinds.proofs.Laws.Places.{places-none, inside-places, lackIn-places, use_in, fills-inside, fills-fault, fills-places, repeats-fault, skipped-fault, skipped-places}
+use Rattle.kinds.proofs.Laws.Places.{places-none, inside-places, lack_in-places, use_in, fills-inside, fills-fault, fills-places, repeats-fault, skipped-fault, skipped-places}
 
 -- ---- the first Result among the fields from a place on
 
@@ -157,7 +157,7 @@ module _ {p : List ℕ} {slots : List Slot} {places : List ℕ} {at : ℕ} (j : 
     judging-end : fault_of p slots (fields_of p) ≡ pick (lack_in slots places) (some (length p)) none
     unfolding fault_of first_of fault_among missing_at
     judging-end =
-        rw (j.judged, fields_from-wrong p at (right_end p at h), ← judging-all, j.theirs, lackIn-places p j.before judging-coded slots)
+        rw (j.judged, fields_from-wrong p at (right_end p at h), ← judging-all, j.theirs, lack_in-places p j.before judging-coded slots)
 
     -- one is
     pub judged-lacking : lack_in slots places ≡ true → JudgedIs p slots (record { fault = length p; places = places })

@@ -82,12 +82,12 @@ pick-none false at = ((λ e. refl), (λ e. refl))
 
 module _ (p : List ℕ) (slots : List Slot) where
   -- the slots with an ID behind those that fields fill
-  abbrev openSlots : ℕ → List Field → List Slot
-  openSlots id before = drop (length (fields_with id before)) (slots_with id slots)
+  abbrev open_slots : ℕ → List Field → List Slot
+  open_slots id before = drop (length (fields_with id before)) (slots_with id slots)
 
   -- behind fields before, those with each ID in use fit the slots that are open
   abbrev Fit : List Field → List Field → Type 0
-  Fit before fs = (id : ℕ) → T (in_use id slots) → T (fitting p (openSlots id before) (fields_with id fs))
+  Fit before fs = (id : ℕ) → T (in_use id slots) → T (fitting p (open_slots id before) (fields_with id fs))
 
   module _ (before : List Field) (f : Field) (fs : List Field) where
     -- the first field, if it has the ID, fits the first slot that is open ..
@@ -96,21 +96,21 @@ module _ (p : List ℕ) (slots : List Slot) where
 
     -- .. and the others the others
     abbrev others : ℕ → Bool
-    others id = fitting p (openSlots id (before ++ (f ∷ []))) (fields_with id fs)
+    others id = fitting p (open_slots id (before ++ (f ∷ []))) (fields_with id fs)
 
     -- those with its own ID fit exactly if both do ..
-    fitting-own : fitting p (openSlots f.id before) (fields_with f.id (f ∷ fs)) ≡ (own f.id && others f.id)
+    fitting-own : fitting p (open_slots f.id before) (fields_with f.id (f ∷ fs)) ≡ (own f.id && others f.id)
     unfolding fields_with form_for
     fitting-own =
         rw (drop-keep-snoc (λ (g : Field). eqb g.id f.id) before f (slots_with f.id slots), T_true (eqb f.id f.id) (eqb_refl f.id))
         (fitting-drop p (length (fields_with f.id before)) (slots_with f.id slots) f (fields_with f.id fs))
 
     -- .. and so do those with any ID
-    fitting-step : (id : ℕ) → fitting p (openSlots id before) (fields_with id (f ∷ fs)) ≡ (own id && others id)
+    fitting-step : (id : ℕ) → fitting p (open_slots id before) (fields_with id (f ∷ fs)) ≡ (own id && others id)
     unfolding fields_with
     fitting-step id =
         ⊎_elim
-        (λ t. subst (λ (j : ℕ). fitting p (openSlots j before) (fields_with j (f ∷ fs)) ≡ (own j && others j)) (eqb→eq f.id id t) fitting-own)
+        (λ t. subst (λ (j : ℕ). fitting p (open_slots j before) (fields_with j (f ∷ fs)) ≡ (own j && others j)) (eqb→eq f.id id t) fitting-own)
         (λ e. rw (drop-keep-snoc (λ (g : Field). eqb g.id id) before f (slots_with id slots)) (rw e))
         (decide (eqb f.id id))
 
@@ -140,30 +140,30 @@ module _ (p : List ℕ) (slots : List Slot) where
         (h id u))
 
   -- none is at fault, so they fit
-  faultAmong-fit : (before fs : List Field) → fault_among p slots before fs ≡ none → Fit before fs
+  fault_among-fit : (before fs : List Field) → fault_among p slots before fs ≡ none → Fit before fs
   unfolding fault_among fields_with
-  faultAmong-fit before [] e = λ id u. tt
-  faultAmong-fit before (f ∷ fs) e =
+  fault_among-fit before [] e = λ id u. tt
+  fault_among-fit before (f ∷ fs) e =
       pick-cases (λ o. o ≡ none → Fit before (f ∷ fs)) (at_fault p slots before f) (some f.at) (fault_among p slots (before ++ (f ∷ [])) fs)
       (λ t c. absurd (some-ne-none f.at c))
-      (λ q c. fit-cons before f fs q (faultAmong-fit (before ++ (f ∷ [])) fs c))
+      (λ q c. fit-cons before f fs q (fault_among-fit (before ++ (f ∷ [])) fs c))
       e
 
   -- they fit, so none is at fault
-  fit-faultAmong : (before fs : List Field) → Fit before fs → fault_among p slots before fs ≡ none
+  fit-fault_among : (before fs : List Field) → Fit before fs → fault_among p slots before fs ≡ none
   unfolding fault_among
-  fit-faultAmong before [] h = refl
-  fit-faultAmong before (f ∷ fs) h = rw (fit-first before f fs h) (fit-faultAmong (before ++ (f ∷ [])) fs (fit-rest before f fs h))
+  fit-fault_among before [] h = refl
+  fit-fault_among before (f ∷ fs) h = rw (fit-first before f fs h) (fit-fault_among (before ++ (f ∷ [])) fs (fit-rest before f fs h))
 
   -- no field is at fault or missing exactly if those with each ID in use fit the slots with that ID, and no slot lacks its field
-  pub faultOf-none : (fs : List Field)
+  pub fault_of-none : (fs : List Field)
       → (fault_of p slots fs ≡ none)
       ↔ (((id : ℕ) → T (in_use id slots) → T (fitting p (slots_with id slots) (fields_with id fs))) × (some_of lacking (filled_in slots fs) ≡ false))
   unfolding fault_of missing_at fields_with
-  faultOf-none fs =
+  fault_of-none fs =
       let both = first_of-none (fault_among p slots [] fs) (missing_at p (filled_in slots fs)) in
       let full = pick-none (some_of lacking (filled_in slots fs)) (length p) in
-      (λ e. (faultAmong-fit [] fs (both.0 e).0, full.0 (both.0 e).1), λ h. both.1 (fit-faultAmong [] fs h.0, full.1 h.1))
+      (λ e. (fault_among-fit [] fs (both.0 e).0, full.0 (both.0 e).1), λ h. both.1 (fit-fault_among [] fs h.0, full.1 h.1))
 
 -- ---- slots and the fields that fill them
 

@@ -15,7 +15,7 @@ use Rattle.kinds.specs.Kind.{Kind, kinds, has_kind, kind_of, settled, slots_of}
 use Rattle.kinds.specs.Found.{kind_numbered}
 use Rattle.kinds.specs.Inner.{mcv2_kind}
 use Rattle.octets.proofs.Choice.{NoneFrom, none_from, pick_same}
-use Rattle.octets.proofs.Big.{same-bigOf}
+use Rattle.octets.proofs.Big.{same-big_of}
 
 -- ---- by number
 
@@ -37,23 +37,23 @@ seventh kind h l t = omega (arith, none_from 1 6 kind h t)
 
 module _ (n : Numbers) where
   -- each of 1 to 7 is that of a kind
-  pub kindNumbered-some : (kind : ℕ) → 0 < kind → kind < 8 → (k : Kind) × (kind_numbered n kind ≡ some k)
+  pub kind_numbered-some : (kind : ℕ) → 0 < kind → kind < 8 → (k : Kind) × (kind_numbered n kind ≡ some k)
   unfolding kind_numbered kinds
-  kindNumbered-some =
+  kind_numbered-some =
       of_seven (λ kind. (k : Kind) × (kind_numbered n kind ≡ some k)) (_, refl) (_, refl) (_, refl) (_, refl) (_, refl) (_, refl) (_, refl)
 
   -- which has that number
-  pub kindNumbered-kind : (kind : ℕ) → 0 < kind → kind < 8 → (k : Kind) → kind_numbered n kind ≡ some k → k.kind ≡ kind
+  pub kind_numbered-kind : (kind : ℕ) → 0 < kind → kind < 8 → (k : Kind) → kind_numbered n kind ≡ some k → k.kind ≡ kind
   unfolding kind_numbered kinds
-  kindNumbered-kind =
+  kind_numbered-kind =
       of_seven (λ kind. (k : Kind) → kind_numbered n kind ≡ some k → k.kind ≡ kind)
       (λ k e. cc) (λ k e. cc) (λ k e. cc) (λ k e. cc) (λ k e. cc) (λ k e. cc) (λ k e. cc)
 
   -- whose slots depend on whether the packet's Result is 1 in kind 2 alone
-  pub slotsOf-granted : (g : Bool) (kind : ℕ) → 0 < kind → kind < 8 → (k : Kind) → kind_numbered n kind ≡ some k
+  pub slots_of-granted : (g : Bool) (kind : ℕ) → 0 < kind → kind < 8 → (k : Kind) → kind_numbered n kind ≡ some k
       → slots_of (eqb kind 2 && g) k ≡ slots_of g k
   unfolding kind_numbered kinds slots_of settled
-  slotsOf-granted g =
+  slots_of-granted g =
       of_seven (λ kind. (k : Kind) → kind_numbered n kind ≡ some k → slots_of (eqb kind 2 && g) k ≡ slots_of g k)
       (λ k e. again 1 k e refl) (λ k e. refl) (λ k e. again 3 k e refl) (λ k e. again 4 k e refl) (λ k e. again 5 k e refl) (λ k e. again 6 k e refl) (λ k e. again 7 k e refl)
     where
@@ -80,11 +80,11 @@ module _ (p : List ℕ) (octets : (i : ℕ) → get_or p i 0 < 256) (long : 12 �
   -- whether the letters are given ones
   letters-same : (n : ℕ) → n < 256 ^ 4 → same (letters_in p) (big_of 4 n) ≡ eqb (big_at 4 p 8) n
   unfolding letters_in
-  letters-same n h = same-bigOf p octets 4 8 n long h
+  letters-same n h = same-big_of p octets 4 8 n long h
 
   -- the kind of a packet
-  pub kindOf-letters : (n : Numbers) → kind_of n p ≡ kind_by n (big_at 4 p 8) (number_in p)
-  kindOf-letters n =
+  pub kind_of-letters : (n : Numbers) → kind_of n p ≡ kind_by n (big_at 4 p 8) (number_in p)
+  kind_of-letters n =
       unfold mcv2_kind in
       simp (pick_under (kind_numbered n), pick_same)
       (unfold kind_of kinds has_kind kind_numbered big_of in

@@ -13,7 +13,7 @@ use lib.ListN.{length, get_or, set, replicate, get_elem?, length-append}
 use lib.Dec.{T, leb, eqb, eqb_refl, leb-zero, leb-suc-zero, leb-suc-suc, le→leb, leb→le}
 use borrow.Author.Tests.{eqb-true, ne_eqb, le-leb, lt-leb}
 use Rattle.octets.specs.Choice.{pick, every, some_of}
-use Rattle.octets.proofs.Choice.{T_true, decide, T_and, T-and-left, T-and-right, every-getD}
+use Rattle.octets.proofs.Choice.{T_true, decide, T_and, T-and-left, T-and-right, every-get_or}
 use Rattle.octets.proofs.Lists.{getElem?-snoc, getElem?-snoc-other}
 use Rattle.octets.proofs.Keep.{every-kept, keep-snoc-true, keep-snoc-false}
 use Rattle.octets.proofs.Places.{eqb_comm}
@@ -40,21 +40,21 @@ field_count id fs = length (fields_with id fs)
 
 module _ (id : ℕ) (slots : List Slot) (s : Slot) where
   -- one more, with one slot more that has it
-  slotCount-own : eqb s.id id ≡ true → slot_count id (slots ++ (s ∷ [])) ≡ suc (slot_count id slots)
+  slot_count-own : eqb s.id id ≡ true → slot_count id (slots ++ (s ∷ [])) ≡ suc (slot_count id slots)
   unfolding slots_with
-  slotCount-own e = ap length (keep-snoc-true (λ (r : Slot). eqb r.id id) slots s e) ∙ simp (length-append, add-one)
+  slot_count-own e = ap length (keep-snoc-true (λ (r : Slot). eqb r.id id) slots s e) ∙ simp (length-append, add-one)
 
   -- as many, with one that has another
-  slotCount-other : eqb s.id id ≡ false → slot_count id (slots ++ (s ∷ [])) ≡ slot_count id slots
+  slot_count-other : eqb s.id id ≡ false → slot_count id (slots ++ (s ∷ [])) ≡ slot_count id slots
   unfolding slots_with
-  slotCount-other e = ap length (keep-snoc-false (λ (r : Slot). eqb r.id id) slots s e)
+  slot_count-other e = ap length (keep-snoc-false (λ (r : Slot). eqb r.id id) slots s e)
 
   -- so no fewer
-  slotCount-le : slot_count id slots ≤ slot_count id (slots ++ (s ∷ []))
-  slotCount-le =
+  slot_count-le : slot_count id slots ≤ slot_count id (slots ++ (s ∷ []))
+  slot_count-le =
       ⊎_elim
-      (λ t. omega (arith, slotCount-own (T_true (eqb s.id id) t)))
-      (λ e. omega (arith, slotCount-other e))
+      (λ t. omega (arith, slot_count-own (T_true (eqb s.id id) t)))
+      (λ e. omega (arith, slot_count-other e))
       (decide (eqb s.id id))
 
 -- ---- the place of a slot's field
@@ -128,15 +128,15 @@ module _ (p : List ℕ) where
         ∙ isAbsent-getElem? (fields_with s.id fs) (slot_count s.id earlier)
         ∙ ap (λ (i : ℕ). leb (field_count i fs) (slot_count i earlier)) e
 
-    lackIn-behind : (earlier slots : List Slot) → lack_in slots (places_behind earlier slots fs) ≡ some_of lacking (filled_behind earlier slots fs)
+    lack_in-behind : (earlier slots : List Slot) → lack_in slots (places_behind earlier slots fs) ≡ some_of lacking (filled_behind earlier slots fs)
     unfolding lack_in filled_behind lacking
-    lackIn-behind earlier [] = refl
-    lackIn-behind earlier (s ∷ slots) = rw (place-absent earlier s, lackIn-behind (earlier ++ (s ∷ [])) slots)
+    lack_in-behind earlier [] = refl
+    lack_in-behind earlier (s ∷ slots) = rw (place-absent earlier s, lack_in-behind (earlier ++ (s ∷ [])) slots)
 
     -- a slot that must be filled is open exactly if a field is missing
-    pub lackIn-places : (slots : List Slot) → lack_in slots (places_in slots fs) ≡ some_of lacking (filled_in slots fs)
+    pub lack_in-places : (slots : List Slot) → lack_in slots (places_in slots fs) ≡ some_of lacking (filled_in slots fs)
     unfolding places_in filled_in
-    lackIn-places slots = lackIn-behind [] slots
+    lack_in-places slots = lack_in-behind [] slots
 
     inside-behind : 4 ≤ length p → (earlier slots : List Slot) → T (every (λ (a : ℕ). leb (a + 4) (length p)) (places_behind earlier slots fs))
     unfolding filled_behind
@@ -155,7 +155,7 @@ module _ (p : List ℕ) where
 pub place_inside : (p places : List ℕ) (i : ℕ) → PlacesInside p places → i < length places → get_or places i 0 + 4 ≤ length p
 unfolding PlacesInside
 place_inside p places i t h =
-    leb→le (get_or places i 0 + 4) (length p) (every-getD (λ (a : ℕ). leb (a + 4) (length p)) places i 0 t h)
+    leb→le (get_or places i 0 + 4) (length p) (every-get_or (λ (a : ℕ). leb (a + 4) (length p)) places i 0 t h)
 
 -- ---- one field more
 
@@ -165,35 +165,35 @@ module _ (fs : List Field) (f : Field) where
   more = fs ++ (f ∷ [])
 
   -- it goes behind the others with its ID
-  fieldsWith-own : fields_with f.id more ≡ fields_with f.id fs ++ (f ∷ [])
+  fields_with-own : fields_with f.id more ≡ fields_with f.id fs ++ (f ∷ [])
   unfolding fields_with
-  fieldsWith-own = keep-snoc-true (λ (g : Field). eqb g.id f.id) fs f (T_true (eqb f.id f.id) (eqb_refl f.id))
+  fields_with-own = keep-snoc-true (λ (g : Field). eqb g.id f.id) fs f (T_true (eqb f.id f.id) (eqb_refl f.id))
 
   -- and not behind those with another
-  fieldsWith-other : (id : ℕ) → eqb id f.id ≡ false → fields_with id more ≡ fields_with id fs
+  fields_with-other : (id : ℕ) → eqb id f.id ≡ false → fields_with id more ≡ fields_with id fs
   unfolding fields_with
-  fieldsWith-other id e = keep-snoc-false (λ (g : Field). eqb g.id id) fs f (eqb_comm f.id id ∙ e)
+  fields_with-other id e = keep-snoc-false (λ (g : Field). eqb g.id id) fs f (eqb_comm f.id id ∙ e)
 
   -- it fills the slot that as many slots with its ID go before as fields
   place-own : (earlier : List Slot) (s : Slot) → eqb s.id f.id ≡ true → field_count f.id fs ≡ slot_count f.id earlier → place earlier s more ≡ f.at
-  place-own earlier s e n = rw (eqb-true s.id f.id e, ← n, fieldsWith-own, getElem?-snoc (fields_with f.id fs) f)
+  place-own earlier s e n = rw (eqb-true s.id f.id e, ← n, fields_with-own, getElem?-snoc (fields_with f.id fs) f)
 
   -- no other slot with its ID
   place-past : (earlier : List Slot) (s : Slot) → eqb s.id f.id ≡ true → (field_count f.id fs ≡ slot_count f.id earlier → ⊥)
       → place earlier s more ≡ place earlier s fs
   place-past earlier s e n =
-      rw (eqb-true s.id f.id e, fieldsWith-own, getElem?-snoc-other (fields_with f.id fs) f (slot_count f.id earlier) n)
+      rw (eqb-true s.id f.id e, fields_with-own, getElem?-snoc-other (fields_with f.id fs) f (slot_count f.id earlier) n)
 
   -- and none with another
   place_other : (earlier : List Slot) (s : Slot) → eqb s.id f.id ≡ false → place earlier s more ≡ place earlier s fs
-  place_other earlier s e = rw (fieldsWith-other s.id e)
+  place_other earlier s e = rw (fields_with-other s.id e)
 
   -- behind the slot that it fills all is as before
   places-past : (earlier slots : List Slot) → field_count f.id fs < slot_count f.id earlier → places_behind earlier slots more ≡ places_behind earlier slots fs
   unfolding filled_behind
   places-past earlier [] h = refl
   places-past earlier (s ∷ slots) h =
-      let rest = places-past (earlier ++ (s ∷ [])) slots (omega (arith, slotCount-le f.id earlier s)) in
+      let rest = places-past (earlier ++ (s ∷ [])) slots (omega (arith, slot_count-le f.id earlier s)) in
       ⊎_elim
       (λ t. cc (rest, place-past earlier s (T_true (eqb s.id f.id) t) (λ e. omega arith)))
       (λ e. cc (rest, place_other earlier s e))
@@ -203,20 +203,20 @@ module _ (fs : List Field) (f : Field) where
 
 module _ (fs : List Field) (f : Field) where
   -- the form of the slot with its ID behind m others
-  abbrev formAt : List Slot → ℕ → Form
-  formAt slots m = get_or (map (λ (s : Slot). s.form) (slots_with f.id slots)) m Barred
+  abbrev form_at : List Slot → ℕ → Form
+  form_at slots m = get_or (map (λ (s : Slot). s.form) (slots_with f.id slots)) m Barred
 
   -- of slots behind those earlier: m of those with its ID are filled, and it fills the i-th slot
   record Filling (earlier slots : List Slot) (m i : ℕ) : Type 0 where
     pub inside : i < length slots
     pub used : in_use f.id slots ≡ true
-    pub form : formAt slots m ≡ (get_or slots i blank).form
+    pub form : form_at slots m ≡ (get_or slots i blank).form
     pub places : places_behind earlier slots (fs ++ (f ∷ [])) ≡ set (places_behind earlier slots fs) i f.at
 
   -- there are no more than m
   record Repeating (slots : List Slot) (m : ℕ) : Type 0 where
     pub used : in_use f.id slots ≡ true
-    pub form : formAt slots m ≡ Barred
+    pub form : form_at slots m ≡ Barred
 
   -- there are none
   record Skipping (earlier slots : List Slot) : Type 0 where
@@ -233,7 +233,7 @@ module _ (fs : List Field) (f : Field) where
     means-open : eqb s.id f.id ≡ true → field_count f.id fs ≡ slot_count f.id earlier → Means earlier (s ∷ slots) 0 (Fills 0)
     unfolding filled_behind slots_with
     means-open e n =
-        let one = slotCount-own f.id earlier s e in
+        let one = slot_count-own f.id earlier s e in
         record {
           inside = suc-le-suc zero-le;
           used = rw e;
@@ -263,7 +263,7 @@ module _ (fs : List Field) (f : Field) where
         rw (le-leb (field_count f.id fs) (slot_count f.id earlier) (omega arith)) (means-open e (omega arith))
     means-own (suc m) u e n rest =
         rw (lt-leb (field_count f.id fs) (slot_count f.id earlier) (omega arith))
-        (means-again m u e (λ q. omega arith) (rest m (omega (arith, slotCount-own f.id earlier s e))))
+        (means-again m u e (λ q. omega arith) (rest m (omega (arith, slot_count-own f.id earlier s e))))
 
     -- it has another
     means-later : (m : ℕ) (u : Use) → eqb s.id f.id ≡ false → Means (earlier ++ (s ∷ [])) slots m u → Means earlier (s ∷ slots) m (later u)
@@ -280,18 +280,18 @@ module _ (fs : List Field) (f : Field) where
 
   module _ (p : List ℕ) (t : T (every (coded p) fs)) where
     -- what the first open slot with its ID says
-    means-openIn : (slots earlier : List Slot) (m : ℕ) → field_count f.id fs ≡ slot_count f.id earlier + m
+    means-open_in : (slots earlier : List Slot) (m : ℕ) → field_count f.id fs ≡ slot_count f.id earlier + m
         → Means earlier slots m (open_in slots (places_behind earlier slots fs) f.id)
     unfolding open_in filled_behind
-    means-openIn [] earlier m n = record { unused = refl; places = refl }
-    means-openIn (s ∷ slots) earlier m n =
+    means-open_in [] earlier m n = record { unused = refl; places = refl }
+    means-open_in (s ∷ slots) earlier m n =
         let next = open_in slots (places_behind (earlier ++ (s ∷ [])) slots fs) f.id in
-        let rest = means-openIn slots (earlier ++ (s ∷ [])) in
+        let rest = means-open_in slots (earlier ++ (s ∷ [])) in
         ⊎_elim
         (λ own.
         let e = T_true (eqb s.id f.id) own in
         rw (e, place-open p fs t earlier s f.id (eqb-true s.id f.id e)) (means-own earlier s slots m next e n rest))
-        (λ e. rw e (means-later earlier s slots m next e (rest m (n ∙ rw (slotCount-other f.id earlier s e)))))
+        (λ e. rw e (means-later earlier s slots m next e (rest m (n ∙ rw (slot_count-other f.id earlier s e)))))
         (decide (eqb s.id f.id))
 
 -- ---- a field and the use of it
@@ -303,7 +303,7 @@ use_in slots fs f = open_in slots (places_in slots fs) f.id
 module _ (p : List ℕ) (slots : List Slot) (fs : List Field) (f : Field) (t : T (every (coded p) fs)) where
   use-means : (u : Use) → use_in slots fs f ≡ u → Means fs f [] slots (field_count f.id fs) u
   unfolding places_in filled_in slots_with
-  use-means u e = rw e at (means-openIn fs f p t slots [] (field_count f.id fs) (sym (zero-add (field_count f.id fs))))
+  use-means u e = rw e at (means-open_in fs f p t slots [] (field_count f.id fs) (sym (zero-add (field_count f.id fs))))
 
   module _ (i : ℕ) (e : use_in slots fs f ≡ Fills i) where
     -- the slot that it fills

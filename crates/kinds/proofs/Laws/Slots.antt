@@ -63,48 +63,48 @@ blank = record { id = 0; form = UserId; must = false }
 
 module _ (slots : List Slot) (places : List ℕ) (i : ℕ) (h : i < length slots) (l : i < length places) where
   -- the first of them must be filled and is open, or one behind it
-  lackIn-step : lack_in (drop i slots) (drop i places)
+  lack_in-step : lack_in (drop i slots) (drop i places)
       ≡ (((get_or slots i blank).must && eqb (get_or places i 0) 0) || lack_in (drop (i + 1) slots) (drop (i + 1) places))
   unfolding lack_in
-  lackIn-step = simp add-one (rw (drop-cons slots i blank h, drop-cons places i 0 l))
+  lack_in-step = simp add-one (rw (drop-cons slots i blank h, drop-cons places i 0 l))
 
   -- it must be filled, and is open
-  pub lackIn-open : (get_or slots i blank).must ≡ true → get_or places i 0 ≡ 0 → lack_in (drop i slots) (drop i places) ≡ true
-  lackIn-open m z = lackIn-step ∙ rw (m, eq-eqb (get_or places i 0) 0 z)
+  pub lack_in-open : (get_or slots i blank).must ≡ true → get_or places i 0 ≡ 0 → lack_in (drop i slots) (drop i places) ≡ true
+  lack_in-open m z = lack_in-step ∙ rw (m, eq-eqb (get_or places i 0) 0 z)
 
   -- it is filled: those behind it decide
-  pub lackIn-filled : (get_or places i 0 ≡ 0 → ⊥) → lack_in (drop i slots) (drop i places) ≡ lack_in (drop (i + 1) slots) (drop (i + 1) places)
-  lackIn-filled n = lackIn-step ∙ rw (ne_eqb (get_or places i 0) 0 n, and-false)
+  pub lack_in-filled : (get_or places i 0 ≡ 0 → ⊥) → lack_in (drop i slots) (drop i places) ≡ lack_in (drop (i + 1) slots) (drop (i + 1) places)
+  lack_in-filled n = lack_in-step ∙ rw (ne_eqb (get_or places i 0) 0 n, and-false)
 
   -- it need not be filled
-  pub lackIn-free : (get_or slots i blank).must ≡ false → lack_in (drop i slots) (drop i places) ≡ lack_in (drop (i + 1) slots) (drop (i + 1) places)
-  lackIn-free m = lackIn-step ∙ rw m
+  pub lack_in-free : (get_or slots i blank).must ≡ false → lack_in (drop i slots) (drop i places) ≡ lack_in (drop (i + 1) slots) (drop (i + 1) places)
+  lack_in-free m = lack_in-step ∙ rw m
 
   module _ (id : ℕ) where
     -- the first of them has the ID and is open, or one behind it
-    openIn-step : open_in (drop i slots) (drop i places) id
+    open_in-step : open_in (drop i slots) (drop i places) id
         ≡ pick (eqb (get_or slots i blank).id id)
         (pick (eqb (get_or places i 0) 0) (Fills 0) (again (open_in (drop (i + 1) slots) (drop (i + 1) places) id)))
         (later (open_in (drop (i + 1) slots) (drop (i + 1) places) id))
     unfolding open_in
-    openIn-step = simp add-one (rw (drop-cons slots i blank h, drop-cons places i 0 l))
+    open_in-step = simp add-one (rw (drop-cons slots i blank h, drop-cons places i 0 l))
 
     -- it has the ID, and is open
-    pub openIn-open : (known : Bool) → (get_or slots i blank).id ≡ id → get_or places i 0 ≡ 0
+    pub open_in-open : (known : Bool) → (get_or slots i blank).id ≡ id → get_or places i 0 ≡ 0
         → behind known i (open_in (drop i slots) (drop i places) id) ≡ Fills i
-    openIn-open known e z =
-        rw (openIn-step, eq-eqb (get_or slots i blank).id id e, eq-eqb (get_or places i 0) 0 z, add-zero)
+    open_in-open known e z =
+        rw (open_in-step, eq-eqb (get_or slots i blank).id id e, eq-eqb (get_or places i 0) 0 z, add-zero)
 
     -- it has the ID, and is filled
-    pub openIn-filled : (known : Bool) → (get_or slots i blank).id ≡ id → (get_or places i 0 ≡ 0 → ⊥)
+    pub open_in-filled : (known : Bool) → (get_or slots i blank).id ≡ id → (get_or places i 0 ≡ 0 → ⊥)
         → behind known i (open_in (drop i slots) (drop i places) id) ≡ behind true (i + 1) (open_in (drop (i + 1) slots) (drop (i + 1) places) id)
-    openIn-filled known e n =
-        rw (openIn-step, eq-eqb (get_or slots i blank).id id e, ne_eqb (get_or places i 0) 0 n)
+    open_in-filled known e n =
+        rw (open_in-step, eq-eqb (get_or slots i blank).id id e, ne_eqb (get_or places i 0) 0 n)
         (behind-again known i (open_in (drop (i + 1) slots) (drop (i + 1) places) id))
 
     -- it has another ID
-    pub openIn-other : (known : Bool) → ((get_or slots i blank).id ≡ id → ⊥)
+    pub open_in-other : (known : Bool) → ((get_or slots i blank).id ≡ id → ⊥)
         → behind known i (open_in (drop i slots) (drop i places) id) ≡ behind known (i + 1) (open_in (drop (i + 1) slots) (drop (i + 1) places) id)
-    openIn-other known n =
-        rw (openIn-step, ne_eqb (get_or slots i blank).id id n)
+    open_in-other known n =
+        rw (open_in-step, ne_eqb (get_or slots i blank).id id n)
         (behind-later known i (open_in (drop (i + 1) slots) (drop (i + 1) places) id))

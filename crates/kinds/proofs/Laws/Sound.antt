@@ -15,7 +15,7 @@ use Rattle.fields.specs.Walk.{fields_of}
 use Rattle.fields.proofs.Laws.Fields.{coded, every-coded}
 use Rattle.kinds.specs.declared.kind.Slot.{Slot}
 use Rattle.kinds.specs.Judge.{fits, fields_with, slots_with, Filled, filled_behind, filled_in, is_absent, lacking, fault_of}
-use Rattle.kinds.proofs.Laws.Judging.{fitting, slots_with-own, in_use, faultOf-none, left_for, every-left_for, filled_behind-cons, fitting-next}
+use Rattle.kinds.proofs.Laws.Judging.{fitting, slots_with-own, in_use, fault_of-none, left_for, every-left_for, filled_behind-cons, fitting-next}
 
 -- ---- fields that fill slots
 
@@ -72,5 +72,5 @@ module _ (p : List ℕ) where
       → AllSound p (filled_in slots (fields_of p))
   unfolding filled_in
   fault-sound slots e =
-      let right = (faultOf-none p slots (fields_of p)).0 e in
+      let right = (fault_of-none p slots (fields_of p)).0 e in
       filled-sound (fields_of p) (every-coded p) slots [] (unfold slots_with in right.0) right.1

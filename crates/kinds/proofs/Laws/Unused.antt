@@ -49,63 +49,63 @@ module _ (u : Slot) (idle : u.must ≡ false) where
     more = slots ++ (u ∷ [])
 
     -- it is none of those with another ID ..
-    slotsWith-unused : (id : ℕ) → eqb id u.id ≡ false → slots_with id more ≡ slots_with id slots
+    slots_with-unused : (id : ℕ) → eqb id u.id ≡ false → slots_with id more ≡ slots_with id slots
     unfolding slots_with
-    slotsWith-unused id e =
+    slots_with-unused id e =
         rw (keep_append (λ (s : Slot). eqb s.id id) slots (u ∷ []), eqb_comm u.id id, e, append-nil)
 
     -- .. nor puts one in use
-    inUse-unused : (id : ℕ) → eqb id u.id ≡ false → in_use id more ≡ in_use id slots
-    inUse-unused id e =
+    in_use-unused : (id : ℕ) → eqb id u.id ≡ false → in_use id more ≡ in_use id slots
+    in_use-unused id e =
         rw (some-of-append (λ (s : Slot). eqb s.id id) slots (u ∷ []), eqb_comm u.id id, e, or-false)
 
     -- so that the same fields are at fault
-    faultAmong-unused : (p : List ℕ) (before fs : List Field) → Apart u.id fs → fault_among p more before fs ≡ fault_among p slots before fs
+    fault_among-unused : (p : List ℕ) (before fs : List Field) → Apart u.id fs → fault_among p more before fs ≡ fault_among p slots before fs
     unfolding fault_among at_fault form_for
-    faultAmong-unused p before [] h = refl
-    faultAmong-unused p before (f ∷ fs) h =
+    fault_among-unused p before [] h = refl
+    fault_among-unused p before (f ∷ fs) h =
         let both = or-false-both (eqb f.id u.id) (some_of (λ (g : Field). eqb g.id u.id) fs) h in
-        rw (inUse-unused f.id both.0, slotsWith-unused f.id both.0, faultAmong-unused p (before ++ (f ∷ [])) fs both.1)
+        rw (in_use-unused f.id both.0, slots_with-unused f.id both.0, fault_among-unused p (before ++ (f ∷ [])) fs both.1)
 
     -- so that none fills it
-    filledIn-unused : (fs : List Field) → Apart u.id fs → filled_in more fs ≡ filled_in slots fs ++ (record { slot = u; by = none } ∷ [])
+    filled_in-unused : (fs : List Field) → Apart u.id fs → filled_in more fs ≡ filled_in slots fs ++ (record { slot = u; by = none } ∷ [])
     unfolding filled_in
-    filledIn-unused fs h =
+    filled_in-unused fs h =
         filled_behind-append [] slots (u ∷ []) fs ∙ (unfold filled_behind fields_with in rw (keep-none (λ (f : Field). eqb f.id u.id) fs h))
 
     -- .. and it does not lack one
-    faultOf-more : (p : List ℕ) (fs : List Field) → Apart u.id fs → fault_of p more fs ≡ fault_of p slots fs
+    fault_of-more : (p : List ℕ) (fs : List Field) → Apart u.id fs → fault_of p more fs ≡ fault_of p slots fs
     unfolding fault_of missing_at lacking is_absent
-    faultOf-more p fs h =
-        rw (faultAmong-unused p [] fs h, filledIn-unused fs h, some-of-append, idle, or-false)
+    fault_of-more p fs h =
+        rw (fault_among-unused p [] fs h, filled_in-unused fs h, some-of-append, idle, or-false)
 
     -- its place is 0
-    placesIn-more : (fs : List Field) → Apart u.id fs → places_in more fs ≡ places_in slots fs ++ (0 ∷ [])
+    places_in-more : (fs : List Field) → Apart u.id fs → places_in more fs ≡ places_in slots fs ++ (0 ∷ [])
     unfolding places_in
-    placesIn-more fs h = rw (filledIn-unused fs h, map-append)
+    places_in-more fs h = rw (filled_in-unused fs h, map-append)
 
   -- ---- any number of them
 
   module _ (fs : List Field) (h : Apart u.id fs) where
     -- so many change no fault ..
-    faultOf-replicate : (p : List ℕ) (n : ℕ) (slots : List Slot) → fault_of p (slots ++ replicate n u) fs ≡ fault_of p slots fs
-    faultOf-replicate p zero slots = rw append-nil
-    faultOf-replicate p (suc n) slots =
-        rw (← append_assoc slots (u ∷ []) (replicate n u)) (faultOf-replicate p n (slots ++ (u ∷ [])) ∙ faultOf-more slots p fs h)
+    fault_of-replicate : (p : List ℕ) (n : ℕ) (slots : List Slot) → fault_of p (slots ++ replicate n u) fs ≡ fault_of p slots fs
+    fault_of-replicate p zero slots = rw append-nil
+    fault_of-replicate p (suc n) slots =
+        rw (← append_assoc slots (u ∷ []) (replicate n u)) (fault_of-replicate p n (slots ++ (u ∷ [])) ∙ fault_of-more slots p fs h)
 
     -- .. and have so many places 0
-    placesIn-replicate : (n : ℕ) (slots : List Slot) → places_in (slots ++ replicate n u) fs ≡ places_in slots fs ++ replicate n 0
-    placesIn-replicate zero slots = simp append-nil
-    placesIn-replicate (suc n) slots =
+    places_in-replicate : (n : ℕ) (slots : List Slot) → places_in (slots ++ replicate n u) fs ≡ places_in slots fs ++ replicate n 0
+    places_in-replicate zero slots = simp append-nil
+    places_in-replicate (suc n) slots =
         rw (← append_assoc slots (u ∷ []) (replicate n u))
-        (placesIn-replicate n (slots ++ (u ∷ [])) ∙ rw (placesIn-more slots fs h, append_assoc))
+        (places_in-replicate n (slots ++ (u ∷ [])) ∙ rw (places_in-more slots fs h, append_assoc))
 
     -- filled up with them, slots have the same fields at fault or missing ..
-    pub faultOf-padded : (p : List ℕ) (n : ℕ) (slots : List Slot) → fault_of p (padded n u slots) fs ≡ fault_of p slots fs
+    pub fault_of-padded : (p : List ℕ) (n : ℕ) (slots : List Slot) → fault_of p (padded n u slots) fs ≡ fault_of p slots fs
     unfolding padded
-    faultOf-padded p n slots = faultOf-replicate p (n - length slots) slots
+    fault_of-padded p n slots = fault_of-replicate p (n - length slots) slots
 
     -- .. and the same places, filled up with 0
-    pub placesIn-padded : (n : ℕ) (slots : List Slot) → places_in (padded n u slots) fs ≡ padded n 0 (places_in slots fs)
+    pub places_in-padded : (n : ℕ) (slots : List Slot) → places_in (padded n u slots) fs ≡ padded n 0 (places_in slots fs)
     unfolding padded
-    placesIn-padded n slots = rw length-places_in (placesIn-replicate (n - length slots) slots)
+    places_in-padded n slots = rw length-places_in (places_in-replicate (n - length slots) slots)

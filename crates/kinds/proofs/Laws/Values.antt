@@ -11,7 +11,7 @@ use lib.Dec.{T, eqb, leb, leb→le, eqb→eq, lit≤}
 use borrow.Author.Tests.{eqb-false, ne_eqb}
 use Rattle.octets.specs.Choice.{pick}
 use Rattle.octets.specs.Buffer.{padded}
-use Rattle.octets.proofs.Buffer.{getD-padded}
+use Rattle.octets.proofs.Buffer.{get_or-padded}
 use Rattle.octets.proofs.Choice.{T_true, false-T, T-and-left, T-and-right, pick-cases}
 use Rattle.fields.specs.declared.field.Field.{Field}
 use Rattle.fields.specs.Header.{ack_asked, ssrc_in}
@@ -26,9 +26,9 @@ use Rattle.kinds.specs.Judge.{Held, absent, given, number_at, fits, held_in, slo
 use Rattle.kinds.specs.Reading.{refused, reads, slots_in, message_of, read_as}
 use Rattle.kinds.specs.Found.{kind_numbered, no_slot, slots_by, slots_numbered, place_of, places_in}
 use Rattle.kinds.specs.Inner.{number_from, name_from, indicator_from, result_from, cause_from, values_from}
-use Rattle.kinds.proofs.Laws.Kinds.{of_seven, kindNumbered-some, kindNumbered-kind, slotsOf-granted}
+use Rattle.kinds.proofs.Laws.Kinds.{of_seven, kind_numbered-some, kind_numbered-kind, slots_of-granted}
 use Rattle.kinds.proofs.Laws.Sound.{filled, Sound, AllSound, fault-sound}
-use Rattle.kinds.proofs.Laws.Unused.{Apart, faultOf-padded, placesIn-padded}
+use Rattle.kinds.proofs.Laws.Unused.{Apart, fault_of-padded, places_in-padded}
 
 -- ---- values by places
 
@@ -106,19 +106,19 @@ module _ (p : List ℕ) where
 
   module _ (n : Numbers) (fs : List Field) where
     -- the slots of a kind
-    abbrev slotsHere : Kind → List Slot
-    slotsHere k = slots_of (granted p n.resultid fs) k
+    abbrev slots_here : Kind → List Slot
+    slots_here k = slots_of (granted p n.resultid fs) k
 
     -- fields that fill them soundly have the values of their places
     abbrev Reads : ℕ → Kind → Type 0
     Reads kind k =
-        AllSound p (filled_in (slotsHere k) fs)
-        → values_from kind p (places_in (slotsHere k) fs) ≡ map (held_by p) (filled_in (slotsHere k) fs)
+        AllSound p (filled_in (slots_here k) fs)
+        → values_from kind p (places_in (slots_here k) fs) ≡ map (held_by p) (filled_in (slots_here k) fs)
 
     -- so they do in each kind
-    valuesFrom-held : (kind : ℕ) → 0 < kind → kind < 8 → (k : Kind) → kind_numbered n kind ≡ some k → Reads kind k
+    values_from-held : (kind : ℕ) → 0 < kind → kind < 8 → (k : Kind) → kind_numbered n kind ≡ some k → Reads kind k
     unfolding kind_numbered kinds slots_of settled filled_in filled_behind places_in values_from held_in
-    valuesFrom-held =
+    values_from-held =
         of_seven (λ kind. (k : Kind) → kind_numbered n kind ≡ some k → Reads kind k)
         (λ k e. subst (Reads 1) (some-injective _ k e)
         (λ s. rw (name-held _ s.0, name-held _ s.1.0, indicator-held _ s.1.1.0)))
@@ -139,7 +139,7 @@ module _ (p : List ℕ) where
 -- places filled up with 0 have the same values
 values_from-padded : (kind : ℕ) (p : List ℕ) (m : ℕ) (places : List ℕ) → values_from kind p (padded m 0 places) ≡ values_from kind p places
 unfolding values_from
-values_from-padded kind p m places = simp getD-padded
+values_from-padded kind p m places = simp get_or-padded
 
 -- ---- judging and the message joined
 
@@ -149,13 +149,13 @@ module _ (n : Numbers) (p : List ℕ) (kind : ℕ) (above : 0 < kind) (below : k
   grant = granted p n.resultid (fields_of p)
 
   -- the slots that the code hands to judging are those of the kind ..
-  pub slotsNumbered-granted : slots_numbered n kind (eqb kind 2 && grant) ≡ slots_numbered n kind grant
+  pub slots_numbered-granted : slots_numbered n kind (eqb kind 2 && grant) ≡ slots_numbered n kind grant
   unfolding slots_numbered
-  slotsNumbered-granted = rw (numbered, slotsOf-granted n grant kind above below k numbered)
+  slots_numbered-granted = rw (numbered, slots_of-granted n grant kind above below k numbered)
 
   -- .. filled up to three
-  slotsNumbered-padded : slots_numbered n kind (eqb kind 2 && grant) ≡ padded 3 no_slot (slots_of grant k)
-  slotsNumbered-padded = slotsNumbered-granted ∙ (unfold slots_numbered in rw numbered)
+  slots_numbered-padded : slots_numbered n kind (eqb kind 2 && grant) ≡ padded 3 no_slot (slots_of grant k)
+  slots_numbered-padded = slots_numbered-granted ∙ (unfold slots_numbered in rw numbered)
 
   -- no field has the ID of those that fill up
   unused : Apart 256 (fields_of p)
@@ -163,19 +163,19 @@ module _ (n : Numbers) (p : List ℕ) (kind : ℕ) (above : 0 < kind) (below : k
 
   -- they find the same fault
   pub fault-numbered : fault_of p (slots_numbered n kind (eqb kind 2 && grant)) (fields_of p) ≡ fault_of p (slots_of grant k) (fields_of p)
-  fault-numbered = rw slotsNumbered-padded (faultOf-padded no_slot refl (fields_of p) unused p 3 (slots_of grant k))
+  fault-numbered = rw slots_numbered-padded (fault_of-padded no_slot refl (fields_of p) unused p 3 (slots_of grant k))
 
   -- where there is none, the values by the places of their fields are what the message holds
   pub values-read : fault_of p (slots_of grant k) (fields_of p) ≡ none
       → values_from kind p (places_in (slots_numbered n kind (eqb kind 2 && grant)) (fields_of p)) ≡ map (held_by p) (filled_in (slots_of grant k) (fields_of p))
   values-read e =
-      rw (slotsNumbered-padded, placesIn-padded no_slot refl (fields_of p) unused 3 (slots_of grant k), values_from-padded)
-      (valuesFrom-held p n (fields_of p) kind above below k numbered (fault-sound p (slots_of grant k) e))
+      rw (slots_numbered-padded, places_in-padded no_slot refl (fields_of p) unused 3 (slots_of grant k), values_from-padded)
+      (values_from-held p n (fields_of p) kind above below k numbered (fault-sound p (slots_of grant k) e))
 
 -- a packet of the kind whose walk is not whole: 4
 pub read_as-cut : (n : Numbers) (p : List ℕ) (kind : ℕ) → 0 < kind → kind < 8 → whole p ≡ false → read_as n p (kind_numbered n kind) ≡ refused 4 0
 unfolding read_as
-read_as-cut n p kind above below e = rw ((kindNumbered-some n kind above below).1, e)
+read_as-cut n p kind above below e = rw ((kind_numbered-some n kind above below).1, e)
 
 module _ (n : Numbers) (p : List ℕ) (kind : ℕ) (above : 0 < kind) (below : kind < 8) (right : T (whole p)) where
   -- the slots that the code hands to judging
@@ -183,21 +183,21 @@ module _ (n : Numbers) (p : List ℕ) (kind : ℕ) (above : 0 < kind) (below : k
   handed = slots_numbered n kind (eqb kind 2 && granted p n.resultid (fields_of p))
 
   -- a packet of the kind whose walk is whole reads to a message or to 5, by the fault that judging finds
-  readAs-fault : read_as n p (kind_numbered n kind)
+  read_as-fault : read_as n p (kind_numbered n kind)
       ≡ message_of p kind (slots_by (granted p n.resultid (fields_of p)) (kind_numbered n kind)) (fault_of p handed (fields_of p))
   unfolding read_as slots_in
-  readAs-fault =
-      let k = kindNumbered-some n kind above below in
-      rw (fault-numbered n p kind above below k.0 k.1, k.1, T_true (whole p) right, kindNumbered-kind n kind above below k.0 k.1)
+  read_as-fault =
+      let k = kind_numbered-some n kind above below in
+      rw (fault-numbered n p kind above below k.0 k.1, k.1, T_true (whole p) right, kind_numbered-kind n kind above below k.0 k.1)
 
   -- a fault: 5
-  pub readAs-faulty : (at : ℕ) → fault_of p handed (fields_of p) ≡ some at → read_as n p (kind_numbered n kind) ≡ refused 5 0
-  readAs-faulty at e = readAs-fault ∙ (unfold message_of in rw e)
+  pub read_as-faulty : (at : ℕ) → fault_of p handed (fields_of p) ≡ some at → read_as n p (kind_numbered n kind) ≡ refused 5 0
+  read_as-faulty at e = read_as-fault ∙ (unfold message_of in rw e)
 
   -- none: the values by the places of their fields
-  pub readAs-right : fault_of p handed (fields_of p) ≡ none
+  pub read_as-right : fault_of p handed (fields_of p) ≡ none
       → read_as n p (kind_numbered n kind) ≡ reads kind (ssrc_in p) (ack_asked p) (values_from kind p (places_in handed (fields_of p)))
-  readAs-right e =
-      let k = kindNumbered-some n kind above below in
+  read_as-right e =
+      let k = kind_numbered-some n kind above below in
       let fault = fault-numbered n p kind above below k.0 k.1 in
-      readAs-fault ∙ (unfold message_of in rw (e, k.1, values-read n p kind above below k.0 k.1 (sym fault ∙ e)))
+      read_as-fault ∙ (unfold message_of in rw (e, k.1, values-read n p kind above below k.0 k.1 (sym fault ∙ e)))

@@ -21,7 +21,7 @@ use Rattle.kinds.specs.Kind.{Need, always, maybe, unless_granted, Row, row, sett
 use Rattle.kinds.specs.Judge.{Held, fits, fields_with, slots_with, Filled, filled_behind, filled_in, is_absent, lacking, fault_of, held_by}
 use Rattle.packet.specs.Claims.{useful, Arranged, present, Allows, AllowsAll}
 use Rattle.kinds.proofs.Laws.Sound.{Sound, AllSound, fault-sound}
-use Rattle.kinds.proofs.Laws.Judging.{fitting, fitting-length, slots_with-own, slots_with-other, in_use, slots_with-none, faultOf-none, left_for, every-left_for, left_for-snoc, filled_behind-cons}
+use Rattle.kinds.proofs.Laws.Judging.{fitting, fitting-length, slots_with-own, slots_with-other, in_use, slots_with-none, fault_of-none, left_for, every-left_for, left_for-snoc, filled_behind-cons}
 
 -- ---- a row and its slot
 
@@ -148,17 +148,17 @@ module _ (p : List ℕ) (grant : Bool) where
   slots rows = map (settled grant) rows
 
   -- these slots, behind those earlier, each with the field that fills it
-  abbrev filledRows : List Field → List Slot → List Row → List Filled
-  filledRows fs earlier rows = filled_behind earlier (slots rows) fs
+  abbrev filled_rows : List Field → List Slot → List Row → List Filled
+  filled_rows fs earlier rows = filled_behind earlier (slots rows) fs
 
   -- the slot of a row with the field that fills it
   abbrev filled : Row → Option Field → Filled
   filled r o = record { slot = settled grant r; by = o }
 
   -- no field, or one that fits the slot
-  abbrev fitsIn : Row → Option Field → Bool
-  fitsIn r none = true
-  fitsIn r (some f) = fits (settled grant r).form p f
+  abbrev fits_in : Row → Option Field → Bool
+  fits_in r none = true
+  fits_in r (some f) = fits (settled grant r).form p f
 
   -- an empty slot lacks a field exactly if that may not be absent
   lacking-none : (r : Row) → lacking (filled r none) ≡ not (may_lack grant r.need)
@@ -168,7 +168,7 @@ module _ (p : List ℕ) (grant : Bool) where
   -- a field with the row's ID that fits the slot, or none that it lacks; and the value that the message holds there
   record Fills (r : Row) (o : Option Field) (v : Held) : Type 0 where
     own : T (has_id r.id o)
-    fit : T (fitsIn r o)
+    fit : T (fits_in r o)
     full : lacking (filled r o) ≡ false
     held : held_by p (filled r o) ≡ v
 
@@ -186,7 +186,7 @@ module _ (p : List ℕ) (grant : Bool) where
       }
 
   -- the first of the fields left fits the first slot, and the others fit the others, so all fit
-  fitting-cons : (r : Row) (behind : List Slot) (xs : List Field) → T (fitsIn r (get_elem? xs 0)) → T (fitting p behind (drop 1 xs)) → T (fitting p (settled grant r ∷ behind) xs)
+  fitting-cons : (r : Row) (behind : List Slot) (xs : List Field) → T (fits_in r (get_elem? xs 0)) → T (fitting p behind (drop 1 xs)) → T (fitting p (settled grant r ∷ behind) xs)
   fitting-cons r behind [] t u = tt
   fitting-cons r behind (f ∷ xs) t u = T_and (fits (settled grant r).form p f) (fitting p behind xs) t u
 
@@ -194,11 +194,11 @@ module _ (p : List ℕ) (grant : Bool) where
 
   -- behind slots earlier, the first row's slot takes the first of the fields left with its ID
   filled-cons : (earlier : List Slot) (r : Row) (rows : List Row) (fs : List Field)
-      → filledRows fs earlier (r ∷ rows)
-      ≡ filled r (get_elem? (left_for r.id earlier fs) 0) ∷ filledRows fs (earlier ++ (settled grant r ∷ [])) rows
+      → filled_rows fs earlier (r ∷ rows)
+      ≡ filled r (get_elem? (left_for r.id earlier fs) 0) ∷ filled_rows fs (earlier ++ (settled grant r ∷ [])) rows
   filled-cons earlier r rows fs =
       filled_behind-cons earlier (settled grant r) (slots rows) fs
-      ∙ ap (λ (id : ℕ). filled r (get_elem? (left_for id earlier fs) 0) ∷ filledRows fs (earlier ++ (settled grant r ∷ [])) rows) (settled-id grant r)
+      ∙ ap (λ (id : ℕ). filled r (get_elem? (left_for id earlier fs) 0) ∷ filled_rows fs (earlier ++ (settled grant r ∷ [])) rows) (settled-id grant r)
 
   -- what fills a slot soundly its row allows
   sound-allows : (r : Row) (o : Option Field) → Sound p (settled grant r) o → Allows p grant r o (held_by p (filled r o))
@@ -215,8 +215,8 @@ module _ (p : List ℕ) (grant : Bool) where
       )
 
   -- slots that are filled soundly their rows allow
-  sound-allowed : (fs : List Field) (rows : List Row) (earlier : List Slot) → AllSound p (filledRows fs earlier rows)
-      → AllowsAll p grant rows (fillers (filledRows fs earlier rows)) (map (held_by p) (filledRows fs earlier rows))
+  sound-allowed : (fs : List Field) (rows : List Row) (earlier : List Slot) → AllSound p (filled_rows fs earlier rows)
+      → AllowsAll p grant rows (fillers (filled_rows fs earlier rows)) (map (held_by p) (filled_rows fs earlier rows))
   unfolding filled_behind
   sound-allowed fs [] earlier a = tt
   sound-allowed fs (r ∷ rows) earlier a =
@@ -304,8 +304,8 @@ module _ (p : List ℕ) (grant : Bool) where
   -- behind slots earlier, no slot of these rows lacks its field, and the message holds these values
   abbrev Accepted : List Field → List Slot → List Row → List Held → Type 0
   Accepted fs earlier rows values =
-      (some_of lacking (filledRows fs earlier rows) ≡ false)
-      × (map (held_by p) (filledRows fs earlier rows) ≡ values)
+      (some_of lacking (filled_rows fs earlier rows) ≡ false)
+      × (map (held_by p) (filled_rows fs earlier rows) ≡ values)
 
   -- rows in order allow fields that fill their slots, where these are those left
   allowed-accepted : (fs : List Field) (rows : List Row) (os : List (Option Field)) (values : List Held) → AllowsAll p grant rows os values
@@ -356,7 +356,7 @@ module _ (p : List ℕ) (rows : List Row) (grant : Bool) (values : List Held) wh
   unfolding slots_with filled_in
   judged-allowed j =
       let slots = map (settled grant) rows in
-      let right = (faultOf-none p slots fs).0 j.0 in (
+      let right = (fault_of-none p slots fs).0 j.0 in (
         fillers (filled_behind [] slots fs),
         rw j.1 at (sound-allowed p grant fs rows [] (fault-sound p slots j.0)),
         λ id. useful-taken id (λ u. right.0 id (rw (in_use-settled grant id rows) u)) ∙ sym (present-filled id [] slots fs),
@@ -368,7 +368,7 @@ module _ (p : List ℕ) (rows : List Row) (grant : Bool) (values : List Held) wh
   allowed-judged t a =
       let same = arranged_used rows fs (present a.0) a.2 in
       let right = allowed-accepted p grant fs rows a.0 values a.1 t [] same in (
-        (faultOf-none p (map (settled grant) rows) fs).1
+        (fault_of-none p (map (settled grant) rows) fs).1
             ((λ id u. rw (same id (rw (in_use-settled grant id rows) at u)) (allowed-fitting p grant id rows a.0 values a.1 t)), right.0),
         right.1,
       )

@@ -10,7 +10,7 @@ use lib.Seq.{slice, slice-cons, slice_empty}
 use lib.Dec.{T, ltb, eqb, eqb→eq, ltb→lt, lit<}
 use borrow.Author.Tests.{lt-ltb, eq-eqb, ne_eqb}
 use Rattle.octets.specs.Choice.{every}
-use Rattle.octets.proofs.Choice.{T-and-left, T-and-right, every-getD}
+use Rattle.octets.proofs.Choice.{T-and-left, T-and-right, every-get_or}
 use Rattle.sheet.specs.declared.Sheet.{Sheet}
 use Rattle.sheet.specs.Table.{table, number_lines, most_seats, row_at}
 use Rattle.sheet.specs.Value as value
@@ -64,7 +64,7 @@ small s t =
     let u : T (every short messages && id) = rw (fits-is s ns refl) at t in
     let r = ltb→lt s.resultid 192 (T-and-right (every short messages) id u) in
     let at : (i : ℕ) → i < 7 → get_or messages i 0 < 16 =
-    λ i l. ltb→lt (get_or messages i 0) 16 (every-getD short messages i 0 (T-and-left (every short messages) id u) l) in
+    λ i l. ltb→lt (get_or messages i 0) 16 (every-get_or short messages i 0 (T-and-left (every short messages) id u) l) in
     omega (arith, at 0 (lit< tt), at 1 (lit< tt), at 2 (lit< tt), at 3 (lit< tt), at 4 (lit< tt), at 5 (lit< tt), at 6 (lit< tt))
 
 -- by its kind

@@ -19,7 +19,7 @@ use Rattle.rows.specs.Rows.{timers_sum, reply_row, answer_row, answers_for, answ
 use Rattle.rows.specs.Promises.{row_of≡}
 use Rattle.rows.specs.Claims.{Narrow}
 use Rattle.rows.specs.Inner.{likely_answers, likely_answer}
-use Rattle.rows.proofs.Laws.Whose.{all_get_d, all_weaker, get_d-rest, whose-none, whose-some}
+use Rattle.rows.proofs.Laws.Whose.{all_get_or, all_weaker, get_or-rest, whose-none, whose-some}
 
 -- the likely answer by the numbers
 abbrev pub likely_in : List ℕ → Answer
@@ -38,7 +38,7 @@ narrow-pick false x y h k = k
 likely-narrow : (done kind cause stops starts : ℕ) → cause < 65536 → NarrowAnswer (likely_answer done kind cause stops starts)
 likely-narrow done kind cause stops starts h =
     let each : All NarrowAnswer (likely_answers kind cause stops starts) = search (narrow-pick) in
-    all_get_d NarrowAnswer (likely_answers kind cause stops starts) Discarded each tt done
+    all_get_or NarrowAnswer (likely_answers kind cause stops starts) Discarded each tt done
 
 -- ---- an answer's own row
 
@@ -135,4 +135,4 @@ six row a b c d e f long p0 p1 p2 p3 p4 p5 = sym (listed-drop 6 0 row long) ∙ 
 
 -- any other number than 1 to 7 is likely that of an event discarded
 pub likely_rest : (done kind cause stops starts : ℕ) → NoneFrom 1 7 done → likely_answer done kind cause stops starts ≡ Discarded
-likely_rest done kind cause stops starts t = get_d-rest Discarded (drop 1 (likely_answers kind cause stops starts)) done t
+likely_rest done kind cause stops starts t = get_or-rest Discarded (drop 1 (likely_answers kind cause stops starts)) done t

@@ -16,7 +16,7 @@ use Rattle.streams.specs.declared.What.TheVariants.{Request, End, Open, T11, End
 use Rattle.rows.specs.Rows.{what_row, event_row, events_by, event_on, event_in}
 use Rattle.rows.specs.Held.{octets_at, event_held}
 use Rattle.rows.specs.Inner.{likely_whats, likely_what}
-use Rattle.rows.proofs.Laws.Whose.{get_d-rest, whose-none, whose-some, whose-row}
+use Rattle.rows.proofs.Laws.Whose.{get_or-rest, whose-none, whose-some, whose-row}
 use Rattle.rows.proofs.Laws.Held.{held-nothing}
 
 -- the likely event by the numbers
@@ -109,7 +109,7 @@ four x y long same p0 p1 p2 p3 = sym (listed-drop 4 0 x long) ∙ rw (p0, p1, p2
 
 -- any other number than 1 to 5 is likely that of a release
 pub likely_rest : (number by : ℕ) (ack : Bool) → NoneFrom 1 5 number → likely_what number by ack ≡ Release
-likely_rest number by ack t = get_d-rest Release (drop 1 (likely_whats by ack)) number t
+likely_rest number by ack t = get_or-rest Release (drop 1 (likely_whats by ack)) number t
 
 -- ---- the event that is made of them
 

@@ -11,10 +11,10 @@ use Rattle.octets.proofs.Choice.{T_false, NoneFrom, none_from, pick-cases, same-
 use Rattle.rows.specs.Rows.{whose}
 
 -- what holds of each holds of the one at any place, if it holds of what stands past the end
-pub all_get_d : {A : Type 0} (P : A → Type 0) (xs : List A) (d : A) → All P xs → P d → (i : ℕ) → P (get_or xs i d)
-all_get_d P [] d h p i = p
-all_get_d P (x ∷ xs) d h p zero = h.0
-all_get_d P (x ∷ xs) d h p (suc i) = all_get_d P xs d h.1 p i
+pub all_get_or : {A : Type 0} (P : A → Type 0) (xs : List A) (d : A) → All P xs → P d → (i : ℕ) → P (get_or xs i d)
+all_get_or P [] d h p i = p
+all_get_or P (x ∷ xs) d h p zero = h.0
+all_get_or P (x ∷ xs) d h p (suc i) = all_get_or P xs d h.1 p i
 
 -- and of each by another, if that follows
 pub all_weaker : {A : Type 0} (P Q : A → Type 0) → ((x : A) → P x → Q x) → (xs : List A) → All P xs → All Q xs
@@ -22,9 +22,9 @@ all_weaker P Q f [] h = tt
 all_weaker P Q f (x ∷ xs) h = (f x h.0, all_weaker P Q f xs h.1)
 
 -- the last arm of a `match` on a number, which stands for 0 too
-pub get_d-rest : {A : Type 0} (d : A) (xs : List A) (k : ℕ) → NoneFrom 1 (length xs) k → get_or (d ∷ xs) k d ≡ d
-get_d-rest d xs zero t = refl
-get_d-rest d xs (suc k) t = let past = none_from 1 (length xs) (suc k) (omega arith) t in get_or-eq_default xs d (omega arith)
+pub get_or-rest : {A : Type 0} (d : A) (xs : List A) (k : ℕ) → NoneFrom 1 (length xs) k → get_or (d ∷ xs) k d ≡ d
+get_or-rest d xs zero t = refl
+get_or-rest d xs (suc k) t = let past = none_from 1 (length xs) (suc k) (omega arith) t in get_or-eq_default xs d (omega arith)
 
 module _ {A : Type 0} (row : A → List ℕ) (likely : List ℕ → A) (numbers : List ℕ) where
   -- a value with these numbers is the likely one

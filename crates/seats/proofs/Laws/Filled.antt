@@ -18,7 +18,7 @@ use Rattle.sheet.specs.Value.{row_of, name_of}
 use Rattle.sheet.specs.Find.{seat_of_user, is_none, new_name}
 use Rattle.sheet.specs.Inner.{nonzero, good_row}
 use Rattle.seats.specs.Inner.{filled, NewRow}
-use Rattle.sheet.proofs.Laws.Rows.{take-name_of, first-seat-none, newName-bad, same-row_of, goodRow-stained, goodRow-unused, goodRow-used}
+use Rattle.sheet.proofs.Laws.Rows.{take-name_of, first-seat-none, new_name-bad, same-row_of, good_row-stained, good_row-unused, good_row-used}
 use Rattle.sheet.proofs.Laws.Laid.{not-zero}
 use Rattle.sheet.proofs.Laws.Seats.{is-none}
 
@@ -107,16 +107,16 @@ module _ (seats : ℕ) (users : List (List ℕ)) (s : ℕ) (l : length (get_or u
   pub unused-filled : seats ≤ s → good_row seats users s ≡ eqb (filled row) 0
   unused-filled h =
       ⊎_elim
-      (λ t. goodRow-unused seats users s (T_true clean t) h ∙ rw (clean-filled t))
-      (λ e. goodRow-stained seats users s e ∙ sym (T_false (eqb (filled row) 0) (λ z. false-T clean e (filled-clean (rw (eqb→eq (filled row) 0 z) tt)))))
+      (λ t. good_row-unused seats users s (T_true clean t) h ∙ rw (clean-filled t))
+      (λ e. good_row-stained seats users s e ∙ sym (T_false (eqb (filled row) 0) (λ z. false-T clean e (filled-clean (rw (eqb→eq (filled row) 0 z) tt)))))
       (decide clean)
 
   -- a seat is there, and the first so many octets are no User ID
   pub used-bad : s < seats → user_id (take (filled row) row) ≡ false → good_row seats users s ≡ false
   used-bad h u =
       ⊎_elim
-      (λ t. goodRow-used seats users s (T_true clean t) h ∙ newName-bad s users (name_of row) (rw (clean-filled t, take-name_of row) at u))
-      (λ e. goodRow-stained seats users s e)
+      (λ t. good_row-used seats users s (T_true clean t) h ∙ new_name-bad s users (name_of row) (rw (clean-filled t, take-name_of row) at u))
+      (λ e. good_row-stained seats users s e)
       (decide clean)
 
   -- a seat is there, and they are one
@@ -152,4 +152,4 @@ module _ (seats : ℕ) (users : List (List ℕ)) (s : ℕ) (l : length (get_or u
         (λ t. new.1 (λ i l. sym (same_name i (good i l))
         ∙ (ap test (sym (get_or-take s users i [] l))
         ∙ none-first-place test (take s users) [] (is-none (first_place test (take s users)) t) i (omega (arith, length-take-le s users (omega (arith, inside)))))))
-        ∙ sym (goodRow-used seats users s (T_true clean used-clean) h ∙ rw named)
+        ∙ sym (good_row-used seats users s (T_true clean used-clean) h ∙ rw named)

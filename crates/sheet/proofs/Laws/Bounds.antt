@@ -14,7 +14,7 @@ use Rattle.sheet.specs.declared.Sheet.{Sheet}
 use Rattle.sheet.specs.Table.{table, number_lines, row_at}
 use Rattle.sheet.specs.Judge.{taken, good_number, in_turn}
 use Rattle.sheet.specs.Value.{numbers_of, valid_alone}
-use Rattle.sheet.proofs.Laws.Entries.{inTurn-append, inTurn-at}
+use Rattle.sheet.proofs.Laws.Entries.{in_turn-append, in_turn-at}
 use Rattle.sheet.proofs.Laws.Fresh.{number_bound}
 
 -- a number that stands on a line of the family is taken
@@ -41,8 +41,8 @@ module _ (s : Sheet) (v : T (valid_alone s)) where
   good-at k l =
       let xs = take s.seats s.ssrcs in
       let t : T (in_turn good_number [] (numbers_of s ++ xs)) = T-and-left (in_turn good_number [] (numbers_of s ++ xs)) _ v in
-      inTurn-at good_number (numbers_of s) k 0
-      (T-and-left (in_turn good_number [] (numbers_of s)) (in_turn good_number (numbers_of s) xs) (rw (inTurn-append good_number [] (numbers_of s) xs) at t))
+      in_turn-at good_number (numbers_of s) k 0
+      (T-and-left (in_turn good_number [] (numbers_of s)) (in_turn good_number (numbers_of s) xs) (rw (in_turn-append good_number [] (numbers_of s) xs) at t))
       l
 
   -- each number of a valid sheet is within its line's bounds

@@ -15,7 +15,7 @@ use Rattle.sheet.specs.Value.{sheet_from, sheet_of, users_of, numbers_of, seat_e
 use Rattle.sheet.specs.Claims.{ValidAloneExactly}
 use Rattle.sheet.proofs.Laws.Entries.{numbers_in-append, length-names_in, seats_in, whole-eq, good-numbers}
 use Rattle.sheet.proofs.Laws.Fresh.{fresh-name, seats_bound, many}
-use Rattle.sheet.proofs.Laws.Laid.{numbers_in-entries_of, valid-good, numbers_in-seats, sheet_from-numbers, valid-length, laid-valid, valid-entries, sheetOf-entries}
+use Rattle.sheet.proofs.Laws.Laid.{numbers_in-entries_of, valid-good, numbers_in-seats, sheet_from-numbers, valid-length, laid-valid, valid-entries, sheet_of-entries}
 
 -- good numbers with User IDs that go with them
 named-entries : (ns : List ℕ) (b : List Entry) → T (in_turn good_number (numbers_in b) ns) → length b + length ns ≤ many
@@ -78,7 +78,7 @@ module _ (s : Sheet) (users : List (List ℕ)) (t : T (valid_with s users)) wher
       let v : T (valid es) = valid-entries s users t in
       let g : T (in_turn good_number [] (numbers s)) = rw numbers-entries at (good-numbers [] es (valid-good es v)) in
       let w : T (whole (numbers s)) = rw numbers-entries at (T-and-right (in_turn good [] es) (whole (numbers_in es)) v) in
-      let p : s.ssrcs ≡ (sheet_from (numbers s)).ssrcs = ap (λ (x : Sheet). x.ssrcs) (sym (sheetOf-entries s users t) ∙ ap sheet_from numbers-entries) in
+      let p : s.ssrcs ≡ (sheet_from (numbers s)).ssrcs = ap (λ (x : Sheet). x.ssrcs) (sym (sheet_of-entries s users t) ∙ ap sheet_from numbers-entries) in
       T_and (in_turn good_number [] (numbers s)) (whole (numbers s) && same s.ssrcs (sheet_from (numbers s)).ssrcs) g
       (T_and (whole (numbers s)) (same s.ssrcs (sheet_from (numbers s)).ssrcs) w (eq-same s.ssrcs (sheet_from (numbers s)).ssrcs p))
 

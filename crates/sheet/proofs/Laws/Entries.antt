@@ -19,29 +19,29 @@ use Rattle.sheet.specs.Judge.{Entry, numbers_in, names_in, good_number, visible,
 
 module _ {A : Type 0} (p : List A → A → Bool) where
   -- of two lists, the second behind the first
-  pub inTurn-append : (b xs ys : List A) → in_turn p b (xs ++ ys) ≡ (in_turn p b xs && in_turn p (b ++ xs) ys)
+  pub in_turn-append : (b xs ys : List A) → in_turn p b (xs ++ ys) ≡ (in_turn p b xs && in_turn p (b ++ xs) ys)
   unfolding in_turn
-  inTurn-append b [] ys = rw (append-nil b)
-  inTurn-append b (x ∷ xs) ys =
-      rw (inTurn-append (b ++ (x ∷ [])) xs ys, append_assoc b (x ∷ []) xs)
+  in_turn-append b [] ys = rw (append-nil b)
+  in_turn-append b (x ∷ xs) ys =
+      rw (in_turn-append (b ++ (x ∷ [])) xs ys, append_assoc b (x ∷ []) xs)
       (sym (and_assoc (p b x) (in_turn p (b ++ (x ∷ [])) xs) (in_turn p (b ++ (x ∷ xs)) ys)))
 
   -- one more, good behind the others
-  pub inTurn-snoc : (b : List A) (x : A) → T (in_turn p [] b) → T (p b x) → T (in_turn p [] (b ++ (x ∷ [])))
+  pub in_turn-snoc : (b : List A) (x : A) → T (in_turn p [] b) → T (p b x) → T (in_turn p [] (b ++ (x ∷ [])))
   unfolding in_turn
-  inTurn-snoc b x t g = rw (inTurn-append [] b (x ∷ [])) (T_and (in_turn p [] b) (p b x && true) t (T_and (p b x) true g tt))
+  in_turn-snoc b x t g = rw (in_turn-append [] b (x ∷ [])) (T_and (in_turn p [] b) (p b x && true) t (T_and (p b x) true g tt))
 
   -- those behind the first k
-  pub inTurn-drop : (k : ℕ) (xs : List A) → T (in_turn p [] xs) → T (in_turn p (take k xs) (drop k xs))
-  inTurn-drop k xs t =
+  pub in_turn-drop : (k : ℕ) (xs : List A) → T (in_turn p [] xs) → T (in_turn p (take k xs) (drop k xs))
+  in_turn-drop k xs t =
       T-and-right (in_turn p [] (take k xs)) (in_turn p (take k xs) (drop k xs))
-      (rw (inTurn-append [] (take k xs) (drop k xs)) at (subst (λ (ys : List A). T (in_turn p [] ys)) (sym (take-append-drop k xs)) t))
+      (rw (in_turn-append [] (take k xs) (drop k xs)) at (subst (λ (ys : List A). T (in_turn p [] ys)) (sym (take-append-drop k xs)) t))
 
   -- each is good behind those before it
-  pub inTurn-at : (xs : List A) (k : ℕ) (d : A) → T (in_turn p [] xs) → k < length xs → T (p (take k xs) (get_or xs k d))
+  pub in_turn-at : (xs : List A) (k : ℕ) (d : A) → T (in_turn p [] xs) → k < length xs → T (p (take k xs) (get_or xs k d))
   unfolding in_turn
-  inTurn-at xs k d t h =
-      let g : T (in_turn p (take k xs) (get_or xs k d ∷ drop (suc k) xs)) = rw (drop-cons xs k d h) at (inTurn-drop k xs t) in
+  in_turn-at xs k d t h =
+      let g : T (in_turn p (take k xs) (get_or xs k d ∷ drop (suc k) xs)) = rw (drop-cons xs k d h) at (in_turn-drop k xs t) in
       T-and-left (p (take k xs) (get_or xs k d)) (in_turn p (take k xs ++ (get_or xs k d ∷ [])) (drop (suc k) xs)) g
 
 -- each good behind those before it, so all in turn

@@ -14,7 +14,7 @@ use Rattle.octets.proofs.Choice.{below, false-T, decide, le-or-lt, T_and, T-and-
 use Rattle.sheet.specs.Table.{table, seat_row, number_lines, seats_line, most_seats, row_at}
 use Rattle.sheet.specs.Judge.{Entry, numbers_in, names_in, taken, good_number, visible, user_id, good_name, good, in_turn, whole, valid}
 use Rattle.sheet.proofs.Laws.Rules.{row_at-seat}
-use Rattle.sheet.proofs.Laws.Entries.{inTurn-at, inTurn-snoc, good-numbers, length-numbers_in, length-names_in, numbers_in-append, seats_in, Open, eq-whole}
+use Rattle.sheet.proofs.Laws.Entries.{in_turn-at, in_turn-snoc, good-numbers, length-numbers_in, length-names_in, numbers_in-append, seats_in, Open, eq-whole}
 
 -- ---- a list of n leaves one of n + 1 different things out
 
@@ -202,7 +202,7 @@ extended zero b t h = ([], refl, rw (append-nil b) t)
 extended (suc m) b t h =
     let w = fresh_entry b (omega arith) in
     let l : length (b ++ (w.0 ∷ [])) ≡ length b + 1 = length-append b (w.0 ∷ []) in
-    let r = extended m (b ++ (w.0 ∷ [])) (inTurn-snoc good b w.0 t w.1) (omega arith) in
+    let r = extended m (b ++ (w.0 ∷ [])) (in_turn-snoc good b w.0 t w.1) (omega arith) in
     (w.0 ∷ r.0, ap suc r.1, rw (append_assoc b (w.0 ∷ []) r.0) at r.2)
 
 -- the bounds of a good number
@@ -220,7 +220,7 @@ unfolding row_at table seats_line number_lines most_seats
 seats_bound ns t =
     ⊎_elim
     (λ h. omega (arith, get_or-eq_default ns 0 h))
-    (λ h. rw (length-take-le seats_line ns (omega arith)) at (number_bound (take seats_line ns) (seats_in ns) (inTurn-at good_number ns seats_line 0 t h)))
+    (λ h. rw (length-take-le seats_line ns (omega arith)) at (number_bound (take seats_line ns) (seats_in ns) (in_turn-at good_number ns seats_line 0 t h)))
     (le-or-lt (length ns) seats_line)
 
 -- what follows the lines with a number alone leaves the line seats as it is

@@ -18,7 +18,7 @@ use Rattle.sheet.specs.Table.{table, seat_row, number_lines, seats_line, most_se
 use Rattle.sheet.specs.Judge.{Entry, numbers_in, names_in, visible, longest_name, good, in_turn, whole, valid}
 use Rattle.sheet.specs.Value.{sheet_by, sheet_from, sheet_of, row_of, users_of, numbers_of, name_of, alone, seat_entries, entries_of, same_rows, valid_with}
 use Rattle.sheet.proofs.Laws.Rules.{row-unnamed, row_at-seat}
-use Rattle.sheet.proofs.Laws.Entries.{good-shaped, inTurn-drop, length-numbers_in, seats_in, whole-eq}
+use Rattle.sheet.proofs.Laws.Entries.{good-shaped, in_turn-drop, length-numbers_in, seats_in, whole-eq}
 
 -- ---- the lines with a number alone
 
@@ -139,7 +139,7 @@ entries_of-laid es t =
     ap₂ (λ (xs ys : List Entry). xs ++ ys)
     (ap (λ (l : List ℕ). map alone l) (numbers_of-sheet_from ns h) ∙ alone-take number_lines [] es g (omega arith))
     (ap₂ seat_entries (laid-ssrcs es t) (laid-users es)
-    ∙ seat_entries-laid (drop number_lines es) (take number_lines es) _ (inTurn-drop good number_lines es g) (rw (length-take-le number_lines es h') (omega arith)))
+    ∙ seat_entries-laid (drop number_lines es) (take number_lines es) _ (in_turn-drop good number_lines es g) (rw (length-take-le number_lines es h') (omega arith)))
     ∙ take-append-drop number_lines es
 
 -- ---- which values are a sheet's
@@ -187,13 +187,13 @@ module _ (s : Sheet) (users : List (List ℕ)) (t : T (valid_with s users)) wher
   valid-entries = T-and-left (valid entries) (same s.ssrcs (sheet_of entries).ssrcs && same_rows users (users_of entries)) t
 
   -- are laid out to it again
-  pub sheetOf-entries : sheet_of (entries_of s users) ≡ s
+  pub sheet_of-entries : sheet_of (entries_of s users) ≡ s
   unfolding sheet_of entries_of numbers_of
-  sheetOf-entries =
+  sheet_of-entries =
       sheet_from-numbers s (numbers_in (seat_entries (take s.seats s.ssrcs) users))
       (same-eq s.ssrcs (sheet_of entries).ssrcs (T-and-left (same s.ssrcs (sheet_of entries).ssrcs) (same_rows users (users_of entries)) laid_same))
 
   -- and the rows likewise
-  pub usersOf-entries : users_of (entries_of s users) ≡ users
-  usersOf-entries =
+  pub users_of-entries : users_of (entries_of s users) ≡ users
+  users_of-entries =
       sym (same_rows-eq users (users_of entries) (T-and-right (same s.ssrcs (sheet_of entries).ssrcs) (same_rows users (users_of entries)) laid_same))

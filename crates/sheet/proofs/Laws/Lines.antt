@@ -13,13 +13,13 @@ use borrow.Author.Tests.{le-leb, lt-leb, le-ltb, lt-ltb}
 use Rattle.octets.specs.Choice.{pick}
 use Rattle.octets.specs.Buffer.{zeros_from}
 use Rattle.octets.proofs.Choice.{T_and, T-and-left, T-and-right, le-or-lt, all_below, below}
-use Rattle.octets.proofs.Buffer.{zeros_from-get_d, get_d-zeros_from}
+use Rattle.octets.proofs.Buffer.{zeros_from-get_or, get_or-zeros_from}
 use Rattle.sheet.specs.Table.{Row, table, seat_row, number_lines, seats_line, most_seats, row_at}
 use Rattle.sheet.specs.Judge.{good_number, in_turn}
 use Rattle.sheet.specs.Value.{sheet_from, sheet_in, valid_alone}
 use Rattle.sheet.specs.Inner.{NoneBefore, within, apart, cap}
 use Rattle.sheet.proofs.Laws.Rules.{row_at-seat, other, none_before}
-use Rattle.sheet.proofs.Laws.Entries.{inTurn-at, at-in_turn}
+use Rattle.sheet.proofs.Laws.Entries.{in_turn-at, at-in_turn}
 use Rattle.sheet.proofs.Laws.Numbers.{taken-from, taken-end, good_number-by}
 use Rattle.sheet.proofs.Laws.Values.{lines_good, sheet_in-counted, numbers-sheet_from, numbers-few, numbers-judged}
 
@@ -95,14 +95,14 @@ module _ (ns : List ℕ) (lines : ℕ) (all : number_lines ≤ lines) (on : line
     line-right : (k : ℕ) → k < lines → T (within k (get_or ns k 0) && apart (row_at k).family lines ns k)
     line-right k h =
         let l : length (take lines ns) ≡ lines = length-take-le lines ns on in
-        let g = inTurn-at good_number (take lines ns) k 0 (T-and-left (in_turn good_number [] (take lines ns)) _ t) (omega arith) in
+        let g = in_turn-at good_number (take lines ns) k 0 (T-and-left (in_turn good_number [] (take lines ns)) _ t) (omega arith) in
         rw (take-take k lines ns (omega arith), get_or-take lines ns k 0 h, good_number-apart lines ns k h (omega arith)) at g
 
     -- every line is apart
     line-apart : (k : ℕ) → T (apart (row_at k).family lines ns k)
     line-apart k =
         ⊎_elim
-        (λ h. rw (apart-unused (row_at k).family lines ns k h, zeros_from-get_d ns lines k (T-and-right (in_turn good_number [] (take lines ns)) _ t) h) tt)
+        (λ h. rw (apart-unused (row_at k).family lines ns k h, zeros_from-get_or ns lines k (T-and-right (in_turn good_number [] (take lines ns)) _ t) h) tt)
         (λ h. T-and-right (within k (get_or ns k 0)) _ (line-right k h))
         (le-or-lt lines k)
 
@@ -149,7 +149,7 @@ module _ (ns : List ℕ) (lines : ℕ) (all : number_lines ≤ lines) (on : line
         let l : k < lines = rw (length-take-le lines ns on) at h in
         rw (take-take k lines ns (omega arith), get_or-take lines ns k 0 l, good_number-apart lines ns k l (omega arith))
         (T_and (within k (get_or ns k 0)) _ (right-within k) (right-apart k l))))
-        (get_d-zeros_from ns lines
+        (get_or-zeros_from ns lines
         (λ i l h. eqb→eq (get_or ns i 0) 0 (rw (apart-unused (row_at number_lines).family lines ns i l) at (r.apart-seats i h (omega arith)))))
 
 -- ---- the struct with these numbers is a sheet's exactly if its lines are right

@@ -138,19 +138,19 @@ module _ {ℓ} {A : Type ℓ} (p : A → Bool) (xs : List A) (d : A) (seats i : 
 
 module _ (seats : ℕ) (users : List (List ℕ)) (name : List ℕ) where
   -- it cannot be a User ID
-  pub newName-bad : user_id name ≡ false → new_name seats users name ≡ false
+  pub new_name-bad : user_id name ≡ false → new_name seats users name ≡ false
   unfolding new_name
-  newName-bad e = rw e
+  new_name-bad e = rw e
 
   -- a seat has it
-  pub newName-taken : (s : ℕ) → seat_of_user seats users name ≡ some s → new_name seats users name ≡ false
+  pub new_name-taken : (s : ℕ) → seat_of_user seats users name ≡ some s → new_name seats users name ≡ false
   unfolding new_name
-  newName-taken s e = rw (e, and-false)
+  new_name-taken s e = rw (e, and-false)
 
   -- it can be one, and no seat has it
-  pub newName-free : user_id name ≡ true → seat_of_user seats users name ≡ none → new_name seats users name ≡ true
+  pub new_name-free : user_id name ≡ true → seat_of_user seats users name ≡ none → new_name seats users name ≡ true
   unfolding new_name
-  newName-free t e = rw (t, e)
+  new_name-free t e = rw (t, e)
 
 -- ---- a row as it has to be
 
@@ -164,16 +164,16 @@ module _ (seats : ℕ) (users : List (List ℕ)) (s : ℕ) where
   row = get_or users s []
 
   -- it is more than a name at fixed width
-  pub goodRow-stained : same row (row_of (name_of row)) ≡ false → good_row seats users s ≡ false
+  pub good_row-stained : same row (row_of (name_of row)) ≡ false → good_row seats users s ≡ false
   unfolding good_row
-  goodRow-stained e = rw e
+  good_row-stained e = rw e
 
   -- no seat is there: nothing stands in it
-  pub goodRow-unused : same row (row_of (name_of row)) ≡ true → seats ≤ s → good_row seats users s ≡ eqb (length (name_of row)) 0
+  pub good_row-unused : same row (row_of (name_of row)) ≡ true → seats ≤ s → good_row seats users s ≡ eqb (length (name_of row)) 0
   unfolding good_row
-  goodRow-unused e h = rw (e, le-leb seats s h)
+  good_row-unused e h = rw (e, le-leb seats s h)
 
   -- a seat's name is new
-  pub goodRow-used : same row (row_of (name_of row)) ≡ true → s < seats → good_row seats users s ≡ new_name s users (name_of row)
+  pub good_row-used : same row (row_of (name_of row)) ≡ true → s < seats → good_row seats users s ≡ new_name s users (name_of row)
   unfolding good_row
-  goodRow-used e h = rw (e, lt-leb seats s h)
+  good_row-used e h = rw (e, lt-leb seats s h)

@@ -5,7 +5,7 @@ use Prim.Native.Nat.{ℕ, suc, ◌≤◌, ◌<◌, zero-le}
 use lib.ListN.{get_or-eq_default}
 use lib.Dec.{T, T_not, ltb, eqb, leb→le, eqb→eq}
 use Rattle.octets.specs.Choice.{every}
-use Rattle.octets.proofs.Choice.{T_false, T-and-left, T-and-right, every-getD, every-getD-or, all_below, below, NoneFrom, none_from}
+use Rattle.octets.proofs.Choice.{T_false, T-and-left, T-and-right, every-get_or, every-get_or-or, all_below, below, NoneFrom, none_from}
 use Rattle.sheet.specs.declared.table.Rule.{Rule}
 use Rattle.sheet.specs.Table.{Row, table, seat_row, number_lines, row_at}
 use Rattle.sheet.specs.Inner.{cap, NoneBefore, RuleOf, between, within}
@@ -20,12 +20,12 @@ row_at-seat k h = get_or-eq_default table seat_row h
 -- what holds of each row of the table and of the seat's row holds of every line's
 pub every-row : (p : Row → Bool) → T (every p table) → T (p seat_row) → (k : ℕ) → T (p (row_at k))
 unfolding row_at
-every-row p t s k = every-getD-or p table k seat_row t s
+every-row p t s k = every-get_or-or p table k seat_row t s
 
 -- no User ID stands on a line with a number alone
 pub row-unnamed : (k : ℕ) → k < number_lines → (row_at k).named ≡ false
 unfolding row_at table number_lines
-row-unnamed k h = T_false (row_at k).named (T_not (row_at k).named (every-getD (λ (r : Row). not r.named) table k seat_row tt h))
+row-unnamed k h = T_false (row_at k).named (T_not (row_at k).named (every-get_or (λ (r : Row). not r.named) table k seat_row tt h))
 
 -- and one stands on every seat's
 pub row_named : (k : ℕ) → number_lines ≤ k → (row_at k).named ≡ true

@@ -21,12 +21,12 @@ use Rattle.sheet.specs.Judge.{Entry, numbers_in, names_in, taken, good_number, u
 use Rattle.sheet.specs.Value.{sheet_by, sheet_from, sheet_of, row_of, users_of, numbers_of, name_of, entries_of, valid_with, valid_alone}
 use Rattle.sheet.specs.Find.{seat_of_ssrc, seat_of_user, is_none, new_name, user_of, HasSsrc, HasUser}
 use Rattle.sheet.specs.Inner.{good_row}
-use Rattle.sheet.proofs.Laws.Entries.{inTurn-at, length-numbers_in, length-names_in, good-numbers}
+use Rattle.sheet.proofs.Laws.Entries.{in_turn-at, length-numbers_in, length-names_in, good-numbers}
 use Rattle.sheet.proofs.Laws.Bounds.{taken_at_lem}
 use Rattle.sheet.proofs.Laws.Rules.{row_at-seat}
 use Rattle.sheet.proofs.Laws.Fresh.{seats_bound}
 use Rattle.sheet.proofs.Laws.Rows.{first-seat-some}
-use Rattle.sheet.proofs.Laws.Laid.{valid-good, valid-length, valid-entries, sheetOf-entries, usersOf-entries}
+use Rattle.sheet.proofs.Laws.Laid.{valid-good, valid-length, valid-entries, sheet_of-entries, users_of-entries}
 use Rattle.sheet.proofs.Laws.Claims.{valid_alone_exactly}
 use Rattle.sheet.proofs.Laws.Values.{few_seats, valid-rows}
 
@@ -95,7 +95,7 @@ module _ (s : Sheet) (users : List (List ℕ)) (v : T (valid_with s users)) wher
   unfolding sheet_of sheet_from sheet_by
   eight-ssrcs =
       let ns = drop number_lines (numbers_in es) in
-      ap (λ (x : Sheet). length x.ssrcs) (sym (sheetOf-entries s users v))
+      ap (λ (x : Sheet). length x.ssrcs) (sym (sheet_of-entries s users v))
       ∙ length-padded most_seats 0 ns (omega (arith, few-lines, length-drop number_lines (numbers_in es), length-numbers_in es))
 
   -- and eight rows
@@ -103,7 +103,7 @@ module _ (s : Sheet) (users : List (List ℕ)) (v : T (valid_with s users)) wher
   unfolding users_of
   eight-rows =
       let names = drop number_lines (names_in es) in
-      ap length (sym (usersOf-entries s users v))
+      ap length (sym (users_of-entries s users v))
       ∙ length-padded most_seats (row_of []) (map row_of names)
       (omega (arith, few-lines, length-map names row_of, length-drop number_lines (names_in es), length-names_in es))
 
@@ -125,7 +125,7 @@ module _ (s : Sheet) (users : List (List ℕ)) (v : T (valid_with s users)) wher
       let at : (r : ℕ) → r < s.seats → get_or ns (number_lines + r) 0 ≡ get_or s.ssrcs r 0 =
       λ r m. get_or-append-add (numbers_of s) xs r 0 ∙ get_or-take s.seats s.ssrcs r 0 m in
       seat_new (take k ns) (get_or ns k 0) (number_lines + i)
-      (inTurn-at good_number ns k 0 (T-and-left (in_turn good_number [] ns) _ valid-alone) (omega arith))
+      (in_turn-at good_number ns k 0 (T-and-left (in_turn good_number [] ns) _ valid-alone) (omega arith))
       (omega arith)
       (omega (arith, length-take-le k ns (omega arith)))
       (get_or-take k ns (number_lines + i) 0 (omega arith) ∙ at i (omega arith) ∙ e ∙ sym (at j l))

@@ -12,8 +12,8 @@ use borrow.Author.Tests.{eq-eqb, ne_eqb, eqb-false}
 use Rattle.octets.specs.Choice.{same, some_of}
 use Rattle.octets.specs.Buffer.{zeros_from, padded}
 use Rattle.octets.proofs.Choice.{T_true, true-T, T_false, false-T, decide, pick_true, pick-false, T_and, T-and-left, T-and-right, same-eq, eq-same, le-or-lt}
-use Rattle.octets.proofs.Buffer.{padded-full, getD-padded, length-padded, same-padded}
-use Rattle.octets.proofs.Lists.{map-take, get_d_default}
+use Rattle.octets.proofs.Buffer.{padded-full, get_or-padded, length-padded, same-padded}
+use Rattle.octets.proofs.Lists.{map-take, get_or_default}
 use Rattle.sheet.specs.declared.Sheet.{Sheet}
 use Rattle.sheet.specs.Table.{table, row_at, number_lines, seats_line, most_seats}
 use Rattle.sheet.specs.Judge.{Entry, numbers_in, names_in, taken, good_number, user_id, good_name, good, in_turn, whole, valid}
@@ -21,10 +21,10 @@ use Rattle.sheet.specs.Promises.{numbers_of≡, are_valid≡, valid≡}
 use Rattle.sheet.specs.Value.{sheet_by, sheet_from, sheet_in, sheet_of, row_of, users_of, numbers_of, name_of, alone, seat_entries, entries_of, valid_with, valid_alone}
 use Rattle.sheet.specs.Find.{new_name}
 use Rattle.sheet.specs.Inner.{good_row}
-use Rattle.sheet.proofs.Laws.Entries.{at-in_turn, eq-whole, length-numbers_in, inTurn-at, good-name}
+use Rattle.sheet.proofs.Laws.Entries.{at-in_turn, eq-whole, length-numbers_in, in_turn-at, good-name}
 use Rattle.sheet.proofs.Laws.Fresh.{seats_bound}
-use Rattle.sheet.proofs.Laws.Rows.{take-name_of, goodRow-unused, goodRow-used}
-use Rattle.sheet.proofs.Laws.Laid.{numbers_of-sheet_from, numbers_in-entries_of, names_in-seats, name_of-row_of, valid-good, valid-entries, usersOf-entries, sheet_from-numbers, laid-valid}
+use Rattle.sheet.proofs.Laws.Rows.{take-name_of, good_row-unused, good_row-used}
+use Rattle.sheet.proofs.Laws.Laid.{numbers_of-sheet_from, numbers_in-entries_of, names_in-seats, name_of-row_of, valid-good, valid-entries, users_of-entries, sheet_from-numbers, laid-valid}
 use Rattle.sheet.proofs.Laws.Names.{no_name, seat-named, new_among}
 use Rattle.sheet.proofs.Laws.Claims.{valid_alone_exactly}
 
@@ -147,8 +147,8 @@ module _ (seats : ℕ) (users : List (List ℕ)) (i : ℕ) where
       (λ h.
       let e' : row ≡ row_of [] = e ∙ ap row_of (held_none h) in
       let n : name_of row ≡ [] = ap name_of e' ∙ name_of-row_of [] tt in
-      goodRow-unused seats users i (fixed-width (e' ∙ ap row_of (sym n))) h ∙ rw n)
-      (λ h. goodRow-used seats users i (fixed-width (e ∙ ap row_of (held-seat h))) h ∙ T_true (new_name i users (name_of row)) (new h))
+      good_row-unused seats users i (fixed-width (e' ∙ ap row_of (sym n))) h ∙ rw n)
+      (λ h. good_row-used seats users i (fixed-width (e ∙ ap row_of (held-seat h))) h ∙ T_true (new_name i users (name_of row)) (new h))
       (le-or-lt seats i))
     where
       fixed-width : row ≡ row_of (name_of row) → same row (row_of (name_of row)) ≡ true
@@ -162,12 +162,12 @@ module _ (seats : ℕ) (users : List (List ℕ)) (i : ℕ) where
 
     -- which is new, where a seat is
     good_new : i < seats → T (new_name i users (name_of row))
-    good_new h = rw (goodRow-used seats users i whole_row h) at t
+    good_new h = rw (good_row-used seats users i whole_row h) at t
 
     -- and none, where no seat is
     nothing-held : seats ≤ i → name_of row ≡ []
     nothing-held h =
-        let z : length (name_of row) ≡ 0 = eqb→eq (length (name_of row)) 0 (rw (goodRow-unused seats users i whole_row h) at t) in
+        let z : length (name_of row) ≡ 0 = eqb→eq (length (name_of row)) 0 (rw (good_row-unused seats users i whole_row h) at t) in
         rw z at (sym (take-name_of row))
 
     -- so that the row is what is to be held, laid out
@@ -274,7 +274,7 @@ module _ (s : Sheet) (users : List (List ℕ)) (eight : length s.ssrcs ≡ most_
   unfolding name_of
   row_laid i =
       ap (λ (us : List (List ℕ)). get_or us i (row_of [])) users-laid
-      ∙ getD-padded most_seats (row_of []) (map row_of (map name_of on-seats)) i
+      ∙ get_or-padded most_seats (row_of []) (map row_of (map name_of on-seats)) i
       ∙ get_or-map row_of (map name_of on-seats) i []
       ∙ ap row_of (get_or-map name_of on-seats i [])
 
@@ -284,15 +284,15 @@ module _ (s : Sheet) (users : List (List ℕ)) (eight : length s.ssrcs ≡ most_
   pub valid-rows : T (valid_with s users) → (i : ℕ) → i < most_seats → T (good_row s.seats users i)
   valid-rows v i h =
       let laid : get_or users i [] ≡ row_of (held s.seats users i) =
-      get_d_default users i [] (row_of []) (omega arith)
-      ∙ ap (λ (us : List (List ℕ)). get_or us i (row_of [])) (sym (usersOf-entries s users v))
+      get_or_default users i [] (row_of []) (omega arith)
+      ∙ ap (λ (us : List (List ℕ)). get_or us i (row_of [])) (sym (users_of-entries s users v))
       ∙ row_laid i in
       laid-good s.seats users i laid
       (λ l.
       let k : number_lines + i < length es = rw length-entries (omega arith) in
       rw (seat-judged i l) at
       (good-name (take (number_lines + i) es) (get_or es (number_lines + i) (alone 0))
-      (inTurn-at good es (number_lines + i) (alone 0) (valid-good es (valid-entries s users v)) k)))
+      (in_turn-at good es (number_lines + i) (alone 0) (valid-good es (valid-entries s users v)) k)))
 
   module _ (good-rows : (i : ℕ) → i < most_seats → T (good_row s.seats users i)) where
     -- each row is good, so each entry's name is
@@ -320,7 +320,7 @@ module _ (s : Sheet) (users : List (List ℕ)) (eight : length s.ssrcs ≡ most_
         (λ k h.
         let l : k < length (numbers_of s ++ xs) = rw (← entries-numbers, length-numbers_in es) h in
         T_and (good_number (numbers_in (take k es)) (get_or es k (alone 0)).number) (good_name (names_in (take k es)) (get_or es k (alone 0)).name)
-        (rw (entry-judged k) (inTurn-at good_number (numbers_of s ++ xs) k 0 g l))
+        (rw (entry-judged k) (in_turn-at good_number (numbers_of s ++ xs) k 0 g l))
         (good-names k h))
 
     -- and the value is a sheet's
@@ -337,7 +337,7 @@ module _ (s : Sheet) (users : List (List ℕ)) (eight : length s.ssrcs ≡ most_
         let l : i < length users = rw length-laid at h in
         row_laid i
         ∙ sym (good-laid s.seats users i (good-rows i (omega arith)))
-        ∙ get_d_default users i [] (row_of []) l) in
+        ∙ get_or_default users i [] (row_of []) l) in
         subst (λ (x : Sheet). T (valid_with x users)) q (subst (λ (us : List (List ℕ)). T (valid_with (sheet_of es) us)) u (laid-valid es v))
 
   -- so that the one is judged by the other

@@ -14,7 +14,7 @@ use Rattle.sheet.specs.declared.Refusal.{Refusal}
 use Rattle.sheet.specs.Judge.{Entry, numbers_in, good, in_turn, whole, valid}
 use Rattle.sheet.specs.Value.{sheet_of, users_of, entries_of, valid_with}
 use Rattle.sheet.proofs.Laws.Fresh.{completed}
-use Rattle.sheet.proofs.Laws.Laid.{valid-good, entries_of-laid, laid-valid, valid-entries, sheetOf-entries, usersOf-entries}
+use Rattle.sheet.proofs.Laws.Laid.{valid-good, entries_of-laid, laid-valid, valid-entries, sheet_of-entries, users_of-entries}
 use Rattle.sheet_text.specs.declared.Reading.{Reading}
 use Rattle.sheet_text.specs.Text.{text_from, text_of}
 use Rattle.sheet_text.specs.Reading.{Outcome, reads, refused, outcome, lines, no_refusal, bad_line, reading_of, users_from, read_of, users_in}
@@ -52,9 +52,9 @@ module _ (s : Sheet) (users : List (List ℕ)) (n : ℕ) where
       let es = entries_of s users in
       let x : t ≡ text_of es ++ drop n t = sym (take-append-drop n t) ∙ ap (λ (y : List ℕ). y ++ drop n t) w.2 in
       let o : outcome t ≡ reads es = ap outcome x ∙ reads-outcome es (drop n t) (valid-entries s users w.0) in
-      let a = sheetOf-entries s users w.0 in (
+      let a = sheet_of-entries s users w.0 in (
         ap reading_of o ∙ (λ i. record { sheet = a i; used = sym w.1 i; refusal = no_refusal }),
-        ap users_from o ∙ usersOf-entries s users w.0,
+        ap users_from o ∙ users_of-entries s users w.0,
       )
 
 -- which texts read

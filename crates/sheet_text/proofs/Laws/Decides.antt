@@ -16,14 +16,14 @@ use Rattle.octets.proofs.Choice.{T_true, T_false, false-T, decide, T-and-left}
 use Rattle.octets.proofs.Text.{length-decimal-mono}
 use Rattle.sheet.specs.Table.{table, number_lines, most_seats, row_at}
 use Rattle.sheet.specs.Judge.{Entry, numbers_in, longest_name, user_id, good_name, good, in_turn, whole}
-use Rattle.sheet.proofs.Laws.Entries.{inTurn-snoc, length-numbers_in, length-names_in, numbers_in-append, Open, open_more, not-whole, good-number, good-name, user_id-short, good-numbers}
+use Rattle.sheet.proofs.Laws.Entries.{in_turn-snoc, length-numbers_in, length-names_in, numbers_in-append, Open, open_more, not-whole, good-number, good-name, user_id-short, good-numbers}
 use Rattle.sheet.proofs.Laws.Fresh.{number_bound, seats_bound}
 use Rattle.sheet_line.specs.Line.{lf, comma, tail_of, line_of}
 use Rattle.sheet_text.specs.Text.{widest, longest}
 use Rattle.sheet_text.specs.Reading.{Outcome, good_line, behind, read_by, outcome, reading_of, users_from, read_of, users_in}
 use Rattle.sheet_text.specs.Claims.{LongestDecides}
 use Rattle.sheet_line.proofs.Laws.LineAt.{line_pos}
-use Rattle.sheet_text.proofs.Laws.Readings.{entry_at, good_line-good, good_line-split, goodLine-line, read_by-whole, read_by-bad, read_by-good, length-behind, length-snoc, read-line}
+use Rattle.sheet_text.proofs.Laws.Readings.{entry_at, good_line-good, good_line-split, good_line-line, read_by-whole, read_by-bad, read_by-good, length-behind, length-snoc, read-line}
 
 -- ---- the room for the lines that may follow
 
@@ -112,7 +112,7 @@ good-whole b s m g =
     let u = behind b (take m s) in
     let p : line ++ (u ++ drop m s) ≡ s =
     sym (append_assoc line u (drop m s)) ∙ ap (λ (x : List ℕ). x ++ drop m s) (sym (good_line-split b (take m s) g)) ∙ take-append-drop m s in
-    rw p at (goodLine-line b e (u ++ drop m s) (good_line-good b (take m s) g))
+    rw p at (good_line-line b e (u ++ drop m s) (good_line-good b (take m s) g))
 
 -- behind b, a front with room for the j lines that may follow reads as the whole does
 abbrev Decided : ℕ → List Entry → Type 0
@@ -141,7 +141,7 @@ decided (suc j) b t o c s m r =
     let e = entry_at b s in
     let g : T (good b e) = good_line-good b s x in
     let d : Decided j (b ++ (e ∷ [])) =
-    decided j (b ++ (e ∷ [])) (inTurn-snoc good b e t g)
+    decided j (b ++ (e ∷ [])) (in_turn-snoc good b e t g)
     (subst Open (sym (numbers_in-append b (e ∷ []))) (open_more (numbers_in b) e.number o w))
     (rw (length-snoc b e) (omega arith)) in
     subst (λ (y : List ℕ). reading b (take m y) ≡ reading b y) (sym (good_line-split b s x)) (decided-line j b e g w d (behind b s) m r))

@@ -11,7 +11,7 @@ use lib.Dec.{T}
 use Rattle.octets.proofs.Choice.{T_true, decide, T-and-left, T-and-right}
 use Rattle.sheet.specs.Table.{row_at}
 use Rattle.sheet.specs.Judge.{Entry, numbers_in, good, in_turn, whole}
-use Rattle.sheet.proofs.Laws.Entries.{inTurn-snoc, good-shaped, numbers_in-append, Open, open_more, whole-front}
+use Rattle.sheet.proofs.Laws.Entries.{in_turn-snoc, good-shaped, numbers_in-append, Open, open_more, whole-front}
 use Rattle.sheet_line.specs.Line.{line_of}
 use Rattle.sheet_text.specs.Text.{text_from}
 use Rattle.sheet_text.specs.Reading.{refused, good_line, behind, read_by, first_line, lines}
@@ -134,7 +134,7 @@ some_begins (suc f) b s k (suc j) p h t o =
     let l : length (b ++ (entry_at b s ∷ [])) ≡ suc (length b) = length-snoc b (entry_at b s) in
     front-more b s j g
     (some_begins f (b ++ (entry_at b s ∷ [])) (behind b s) k j (refused-behind b s k f p g) (omega arith)
-    (inTurn-snoc good b (entry_at b s) t (good_line-good b s g))
+    (in_turn-snoc good b (entry_at b s) t (good_line-good b s g))
     (subst Open (sym (numbers_in-append b (entry_at b s ∷ []))) (open_more (numbers_in b) (entry_at b s).number o (refused-open b s k (suc f) p)))))
     (λ g. let q : k ≡ length b + 1 = refused-here b s k (suc f) p g in absurd (omega arith))
     (decide (good_line b s))

@@ -41,20 +41,20 @@ good_line-split b s t =
 
 module _ (b : List Entry) (e : Entry) (u : List ℕ) (g : T (good b e)) where
   -- a good entry is read off its line
-  pub entryAt-line : entry_at b (line_of (row_at (length b)) e ++ u) ≡ e
-  entryAt-line = entry_line (row_at (length b)) e u (good-shaped b e g)
+  pub entry_at-line : entry_at b (line_of (row_at (length b)) e ++ u) ≡ e
+  entry_at-line = entry_line (row_at (length b)) e u (good-shaped b e g)
 
   -- its line is good
-  pub goodLine-line : T (good_line b (line_of (row_at (length b)) e ++ u))
+  pub good_line-line : T (good_line b (line_of (row_at (length b)) e ++ u))
   unfolding good_line
-  goodLine-line =
-      rw entryAt-line
+  good_line-line =
+      rw entry_at-line
       (T_and (begins (line_of (row_at (length b)) e) (line_of (row_at (length b)) e ++ u)) (good b e) (begins-append (line_of (row_at (length b)) e) u) g)
 
   -- what follows is behind it
   pub behind-line : behind b (line_of (row_at (length b)) e ++ u) ≡ u
   unfolding behind
-  behind-line = rw entryAt-line (drop-append_seam (line_of (row_at (length b)) e) u)
+  behind-line = rw entry_at-line (drop-append_seam (line_of (row_at (length b)) e) u)
 
 -- ---- read_by: one line after the other
 
@@ -154,7 +154,7 @@ read-on (suc f) b s es p =
 pub read-line : (f : ℕ) (b : List Entry) (e : Entry) (v : List ℕ) → T (good b e) → whole (numbers_in b) ≡ false
     → read_by (suc f) b (line_of (row_at (length b)) e ++ v) ≡ read_by f (b ++ (e ∷ [])) v
 read-line f b e v g w =
-    rw (read_by-good f b (line_of (row_at (length b)) e ++ v) w (T_true (good_line b (line_of (row_at (length b)) e ++ v)) (goodLine-line b e v g)), entryAt-line b e v g, behind-line b e v g)
+    rw (read_by-good f b (line_of (row_at (length b)) e ++ v) w (T_true (good_line b (line_of (row_at (length b)) e ++ v)) (good_line-line b e v g)), entry_at-line b e v g, behind-line b e v g)
 
 read_back_lem : (more : List Entry) (f : ℕ) (b : List Entry) (u : List ℕ) → T (in_turn good b more) → T (whole (numbers_in (b ++ more)))
     → length (text_from (length b) more ++ u) ≤ f → read_by f b (text_from (length b) more ++ u) ≡ reads (b ++ more)

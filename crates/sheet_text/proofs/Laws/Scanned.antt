@@ -14,13 +14,13 @@ use Rattle.octets.specs.Choice.{pick, same, begins, some_of}
 use Rattle.octets.specs.Buffer.{padded, over, put_at}
 use Rattle.octets.proofs.Lists.{map-drop, drop-replicate}
 use Rattle.octets.proofs.Choice.{true-T, false-T, T_true, T_false, le-or-lt, T-and-left, T-and-right, pick_true, pick-false, pick-cases}
-use Rattle.octets.proofs.Buffer.{over-put_at, take-padded, set-padded, getD-padded, padded-full, padded-nil}
+use Rattle.octets.proofs.Buffer.{over-put_at, take-padded, set-padded, get_or-padded, padded-full, padded-nil}
 use Rattle.sheet.specs.Table.{table, number_lines, seats_line, most_seats, row_at}
 use Rattle.sheet.specs.Judge.{Entry, numbers_in, names_in, good_number, longest_name, user_id, good_name, good, in_turn, whole}
 use Rattle.sheet.specs.Value.{sheet_by, sheet_from, sheet_of, row_of, users_of, name_of, alone}
 use Rattle.sheet.specs.Find.{seat_of_user, is_none, new_name}
 use Rattle.sheet.proofs.Laws.Rules.{row-unnamed}
-use Rattle.sheet.proofs.Laws.Entries.{user_id-short, good-numbers, whole-eq, eq-whole, open_more, inTurn-drop, inTurn-snoc, length-numbers_in, length-names_in, numbers_in-append, seats_in, Open}
+use Rattle.sheet.proofs.Laws.Entries.{user_id-short, good-numbers, whole-eq, eq-whole, open_more, in_turn-drop, in_turn-snoc, length-numbers_in, length-names_in, numbers_in-append, seats_in, Open}
 use Rattle.sheet.proofs.Laws.Fresh.{seats_bound}
 use Rattle.sheet.proofs.Laws.Names.{no_name, seat-named, new_among}
 use Rattle.sheet.proofs.Laws.Laid.{alone-take, name_of-row_of, seat-name}
@@ -72,7 +72,7 @@ module _ (b : List Entry) (t : T (in_turn good [] b)) (h : number_lines ≤ leng
       new_among (take number_lines (numbers_in b)) (length b - number_lines) (users_of b) name
       ∙ ap (λ (names : List (List ℕ)). user_id name && not (some_of (λ (other : List ℕ). same other name) names))
       (ap (λ (rows : List (List ℕ)). alones ++ map name_of rows) rows-laid
-      ∙ ap (λ (names : List (List ℕ)). alones ++ names) (name_of-rows (drop number_lines b) (take number_lines b) (inTurn-drop good number_lines b t) (rw (length-take-le number_lines b h) (le_refl number_lines)))
+      ∙ ap (λ (names : List (List ℕ)). alones ++ names) (name_of-rows (drop number_lines b) (take number_lines b) (in_turn-drop good number_lines b t) (rw (length-take-le number_lines b h) (le_refl number_lines)))
       ∙ sym names-split)
 
 -- ---- a line judged against the arrays is judged against the entries
@@ -155,7 +155,7 @@ module _ {t numbers : List ℕ} {users : List (List ℕ)} {at k : ℕ} (i : Scan
 
   -- the numbers laid out say what the entries' do
   scanned-lines : lines_in numbers ≡ lines_in (numbers_in es)
-  scanned-lines = ap lines_in i.numbers_are ∙ ap (λ (n : ℕ). number_lines + n) (getD-padded room 0 (numbers_in es) seats_line)
+  scanned-lines = ap lines_in i.numbers_are ∙ ap (λ (n : ℕ). number_lines + n) (get_or-padded room 0 (numbers_in es) seats_line)
 
   -- a sheet has no more lines than the arrays have room for
   pub scanned-room : lines_in numbers ≤ room
@@ -265,7 +265,7 @@ module _ {t numbers : List ℕ} {users : List (List ℕ)} {at k : ℕ} (i : Scan
   fits_next : k + 1 ≤ lines_in (set numbers k next.number)
   fits_next =
       let n : lines_in (set numbers k next.number) ≡ lines_in (numbers_in more) =
-      ap lines_in numbers-next ∙ ap (λ (n : ℕ). number_lines + n) (getD-padded room 0 (numbers_in more) seats_line) in
+      ap lines_in numbers-next ∙ ap (λ (n : ℕ). number_lines + n) (get_or-padded room 0 (numbers_in more) seats_line) in
       let l : length (numbers_in more) ≡ k + 1 = length-numbers_in more ∙ length-append i.before (next ∷ []) ∙ ap (λ (m : ℕ). m + 1) i.count in
       let o : Open (numbers_in i.before) = let c = length-numbers in omega (arith, i.fits, scanned-lines i) in
       let q : Open (numbers_in more) = subst (λ (ns : List ℕ). Open ns) (sym next-numbers) (open_more (numbers_in i.before) next.number o (open-line i h)) in
@@ -308,7 +308,7 @@ module _ {t numbers : List ℕ} {users : List (List ℕ)} {at k : ℕ} (i : Scan
           before = more;
           fuel = r.0;
           count = c;
-          goods = inTurn-snoc good i.before next i.goods (subst (λ (e : Entry). T (good i.before e)) next-is (good_line-good i.before (drop at t) good-next));
+          goods = in_turn-snoc good i.before next i.goods (subst (λ (e : Entry). T (good i.before e)) next-is (good_line-good i.before (drop at t) good-next));
           numbers_are = numbers-next;
           users_are = u;
           fits = fits_next;
@@ -381,7 +381,7 @@ unfolding sheet_from padded
 sheet_from-padded ns h =
     let l : length (ns ++ replicate (room - length ns) 0) ≡ length ns + (room - length ns) = simp (length-append, length-replicate) in
     let d : length (drop number_lines (padded room 0 ns)) ≡ length (padded room 0 ns) - number_lines = length-drop number_lines (padded room 0 ns) in
-    ap₂ sheet_by (fun_ext (getD-padded room 0 ns)) (padded-full most_seats 0 (drop number_lines (padded room 0 ns)) (omega arith) ∙ drop-numbers ns h)
+    ap₂ sheet_by (fun_ext (get_or-padded room 0 ns)) (padded-full most_seats 0 (drop number_lines (padded room 0 ns)) (omega arith) ∙ drop-numbers ns h)
 
 module _ {t numbers : List ℕ} {users : List (List ℕ)} {at k : ℕ} (i : Scanned t numbers users at k) where
   -- at a bad line the reading is that refusal

@@ -9,7 +9,7 @@ use lib.Seq.{get_or-take, get_or-drop, get_or-append-add}
 use lib.Dec.{T, eqb}
 use Rattle.octets.specs.Choice.{same}
 use Rattle.octets.proofs.Choice.{pick-cases}
-use Rattle.octets.proofs.Lists.{get_d_default}
+use Rattle.octets.proofs.Lists.{get_or_default}
 use Rattle.packet.specs.declared.Indicator.TheVariants.{Absent, Given}
 use Rattle.packet.specs.declared.Verdict.TheVariants.{Granted, Rejected}
 use Rattle.packet.specs.declared.Message.{Message}
@@ -99,7 +99,7 @@ module _ (row : List ℕ) (n : length row ≡ 12) where
   unfolding row_ten
   ten-front k h =
       get_or-append front _ absent k (omega (arith, front_length))
-      ∙ get_d_default front k absent (given 0) (omega (arith, front_length))
+      ∙ get_or_default front k absent (given 0) (omega (arith, front_length))
       ∙ get_or-map given (take 3 row) k 0
       ∙ ap given (get_or-take 3 row k 0 h)
 
@@ -122,4 +122,4 @@ module _ (row : List ℕ) (n : length row ≡ 12) where
       ten-behind k (2 + j) (omega arith)
       ∙ get_or-append-add names (map number_held (drop 7 row)) j absent
       ∙ get_or-map number_held (drop 7 row) j no_number
-      ∙ ap number_held (get_or-drop 7 row j no_number ∙ get_d_default row (7 + j) no_number 0 (omega arith) ∙ ap (λ (i : ℕ). get_or row i 0) at)
+      ∙ ap number_held (get_or-drop 7 row j no_number ∙ get_or_default row (7 + j) no_number 0 (omega arith) ∙ ap (λ (i : ℕ). get_or row i 0) at)

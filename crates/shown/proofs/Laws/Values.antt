@@ -7,7 +7,7 @@ use mathlib.Core.List.{List, [], ◌∷◌, ◌++◌, flatten, append_assoc}
 use lib.ListN.{length, get_or, drop, length-append, length-map, length-take, length-drop, get_or-map}
 use lib.Seq.{drop-cons}
 use Rattle.octets.specs.Buffer.{put_at}
-use Rattle.octets.proofs.Lists.{get_d_default}
+use Rattle.octets.proofs.Lists.{get_or_default}
 use Rattle.octets.proofs.Buffer.{put_at-nil, put_both}
 use Rattle.sheet_line.specs.Line.{lf}
 use Rattle.packet.specs.declared.Message.{Message}
@@ -38,7 +38,7 @@ text_at p row k = value_text p (get_or (row_ten row) k absent)
 
 text_at_lem : (p row : List ℕ) (k : ℕ) → k < 10 → length row ≡ 12 → get_or (texts_of p row) k [] ≡ text_at p row k
 text_at_lem p row k h n =
-    get_d_default (texts_of p row) k [] (value_text p absent) (rw (length-map, row-ten-length row n) h) ∙ get_or-map (value_text p) (row_ten row) k absent
+    get_or_default (texts_of p row) k [] (value_text p absent) (rw (length-map, row-ten-length row n) h) ∙ get_or-map (value_text p) (row_ten row) k absent
 
 -- behind its name
 pub entry_text-at : (p : List ℕ) (row : List ℕ) (k : ℕ) → k < 10 → length row ≡ 12 → entry_text p row k ≡ get_or labels k [] ++ text_at p row k
@@ -49,19 +49,19 @@ entry_text-at p row k h n = rw (text_at_lem p row k h n)
 
 module _ (p : List ℕ) (row : List ℕ) where
   -- one of them, and those behind it
-  pub valuesFrom-next : (k : ℕ) → k < 10 → length row ≡ 12 → values_from p row k ≡ entry_text p row k ++ values_from p row (k + 1)
+  pub values_from-next : (k : ℕ) → k < 10 → length row ≡ 12 → values_from p row k ≡ entry_text p row k ++ values_from p row (k + 1)
   unfolding values_from entry_text
-  valuesFrom-next k h n = rw add-one (labelled-from labels (texts_of p row) k h (rw (length-map, row-ten-length row n) h))
+  values_from-next k h n = rw add-one (labelled-from labels (texts_of p row) k h (rw (length-map, row-ten-length row n) h))
 
   -- and their lengths
-  pub length-valuesFrom-next : (k : ℕ) → k < 10 → length row ≡ 12
+  pub length-values_from-next : (k : ℕ) → k < 10 → length row ≡ 12
       → length (values_from p row k) ≡ length (get_or labels k []) + length (text_at p row k) + length (values_from p row (k + 1))
-  length-valuesFrom-next k h n = rw (valuesFrom-next k h n, entry_text-at p row k h n, length-append, length-append)
+  length-values_from-next k h n = rw (values_from-next k h n, entry_text-at p row k h n, length-append, length-append)
 
   -- behind the last there is none
-  pub valuesFrom-none : values_from p row 10 ≡ []
+  pub values_from-none : values_from p row 10 ≡ []
   unfolding values_from labelled
-  valuesFrom-none = refl
+  values_from-none = refl
 
   -- the values from one of them on stand at a place
   pub record From (k : ℕ) (s : List ℕ) (at : ℕ) (now : List ℕ) (end : ℕ) : Type 0 where
@@ -74,13 +74,13 @@ module _ (p : List ℕ) (row : List ℕ) where
   from-entry k h n room e f =
       let entry = entry_text p row k in
       let others = values_from p row (k + 1) in
-      let split = valuesFrom-next k h n in
+      let split = values_from-next k h n in
       let both = put_both _ _ entry others _ _ _ _ e.0 e.1 f.put f.past (omega (arith, ap length split, length-append entry others)) in
       record { put = rw split both.0; past = rw split both.1 }
 
   -- behind the last nothing is
   pub from-none : (s : List ℕ) (at : ℕ) → From 10 s at s at
-  from-none s at = record { put = rw valuesFrom-none (sym (put_at-nil s at)); past = rw valuesFrom-none (omega arith) }
+  from-none s at = record { put = rw values_from-none (sym (put_at-nil s at)); past = rw values_from-none (omega arith) }
 
 -- the octets of the names from one of them on
 unfoldable pub names_from : ℕ → ℕ

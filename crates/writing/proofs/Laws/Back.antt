@@ -33,7 +33,7 @@ use Rattle.kinds.specs.declared.kind.Form.TheVariants.{UserId, Number, Cause, Re
 use Rattle.kinds.specs.Kind.{Row, Kind, kind_of, numbers_of, may_lack, may_have, grants}
 use Rattle.kinds.specs.Judge.{Held, absent, number_at, fits, held_in, fields_with}
 use Rattle.kinds.specs.Reading.{reads, read_by, read_of}
-use Rattle.packet.specs.Claims.{useful, present, AllowsAll, is_one as isOneHeld}
+use Rattle.packet.specs.Claims.{useful, present, AllowsAll, is_one as is_one_held}
 use Rattle.packet.proofs.Laws.Allowed.{uses}
 use Rattle.packet.proofs.Laws.Accepts.{accepts_exactly}
 use Rattle.packet.specs.Meaning.{Value, nothing, numeral, spelt, nowhere, value_in, Meaning, meaning, number_held}
@@ -425,7 +425,7 @@ module _ (s : Sheet) (v : T (valid_alone s)) (m : Meaning) (p : List ℕ) (w : W
       let walked = (whole_exactly p head).1 (contents, contents_ids grant k.rows m.values right.ids takes_all_lem, packet-front.rest) in
       let fs = fields_from p first_field in
       let f = packet-fields in
-      let same : grant ≡ grants isOneHeld k.rows f.held = ap (grants is_one k.rows) (sym f.means) ∙ grants-meant p k.rows f.held in
+      let same : grant ≡ grants is_one_held k.rows f.held = ap (grants is_one k.rows) (sym f.means) ∙ grants-meant p k.rows f.held in
       (accepts_exactly (numbers_of s) p k f.held head packet-kind walked).1 (
         f.chosen,
         subst (λ (g : Bool). AllowsAll p g k.rows f.chosen f.held) same f.allows,

@@ -16,7 +16,7 @@ use Rattle.octets.specs.Choice.{pick, every}
 use Rattle.octets.specs.Big.{big_of}
 use Rattle.octets.proofs.Choice.{T_true, true-T, false-T, decide, T_and, T-and-left, T-and-right, T-or-left, T-or-right, T-or-cases, or-false-both, pick-cases}
 use Rattle.octets.proofs.Lists.{listed-take}
-use Rattle.octets.proofs.Big.{length-big_of, bigOf-bigAt}
+use Rattle.octets.proofs.Big.{length-big_of, big_of-big_at}
 use Rattle.sheet.specs.declared.Sheet.{Sheet}
 use Rattle.sheet.specs.Value.{valid_alone}
 use Rattle.fields.specs.declared.field.Field.{Field}
@@ -156,7 +156,7 @@ module _ (p : List ℕ) where
   unfolding value_of number_at
   number-value o f c t =
       let two : f.len ≡ 2 = eqb→eq f.len 2 t in
-      rw two (sym (bigOf-bigAt p (octets-lt p o) 2 (f.at + 2) (omega (arith, inside f c))))
+      rw two (sym (big_of-big_at p (octets-lt p o) 2 (f.at + 2) (omega (arith, inside f c))))
 
   -- the octets of a field that has a form and is bare are those of its value
   value-is : T (are_octets p) → (form : Form) (f : Field) → T (coded p f) → T (fits form p f) → T (bare form p f)

@@ -27,7 +27,7 @@ use Rattle.packet.specs.Claims.{name_right, useful, Arranged, present, Allows, A
 use Rattle.packet.proofs.Laws.Accepts.{read_by-is, accepts_exactly}
 use Rattle.packet.proofs.Laws.NamesInside.{names_right_lem}
 use Rattle.packet.specs.Meaning.{value_in, Meaning, meaning}
-use Rattle.plan.specs.Packet.{within, holds, is_nothing, takes, takes_all, is_one as isOneMeant, packet_of, writable, packet_as}
+use Rattle.plan.specs.Packet.{within, holds, is_nothing, takes, takes_all, is_one as is_one_meant, packet_of, writable, packet_as}
 use Rattle.writing.specs.Claims.{are_octets, ReadsTo}
 use Rattle.writing.proofs.Laws.Kinds.{kind-with}
 use Rattle.writing.proofs.Laws.Front.{octets-lt, ssrc-narrow}
@@ -176,7 +176,7 @@ module _ (p : List ℕ) (o : T (are_octets p)) where
   unfolding writable
   meant-writable k chosen held i a =
       let values = map (value_in p) held in
-      T_and (within 4 (ssrc_in p)) (takes_all (grants isOneMeant k.rows values) k.rows values)
+      T_and (within 4 (ssrc_in p)) (takes_all (grants is_one_meant k.rows values) k.rows values)
       (lt→ltb (ssrc_in p) (256 ^ 4) (ssrc-narrow p o))
       (rw (grants-meant p k.rows held) (rows_take (grants is_one k.rows held) k.rows chosen held i a))
 

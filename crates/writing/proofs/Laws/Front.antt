@@ -11,7 +11,7 @@ use lib.Dec.{T, ltb, eqb, ltb→lt, lt→ltb, eqb→eq}
 use borrow.Author.Tests.{le-leb, eq-eqb, ne_eqb, eqb-true, eqb-false}
 use Rattle.octets.specs.Choice.{every}
 use Rattle.octets.specs.Big.{big_at, big_of}
-use Rattle.octets.proofs.Choice.{T_and, T-and-left, T-and-right, every-both, every-getD-or}
+use Rattle.octets.proofs.Choice.{T_and, T-and-left, T-and-right, every-both, every-get_or-or}
 use Rattle.octets.proofs.Big.{length-big_of, every-big_of, big_at-lt, big_at-put, drop-big_at}
 use Rattle.fields.specs.Header.{first_field, word, size_right, version_right, head_right, ack_asked, number_in, ssrc_in, letters_in}
 use Rattle.fields.proofs.Laws.Sized.{sized}
@@ -23,7 +23,7 @@ use Rattle.writing.specs.Claims.{are_octets}
 -- each octet of a packet is one, and so is what stands for one past its end
 pub octets-lt : (p : List ℕ) → T (are_octets p) → (i : ℕ) → get_or p i 0 < 256
 unfolding are_octets
-octets-lt p o i = ltb→lt (get_or p i 0) 256 (every-getD-or (λ (x : ℕ). ltb x 256) p i 0 o tt)
+octets-lt p o i = ltb→lt (get_or p i 0) 256 (every-get_or-or (λ (x : ℕ). ltb x 256) p i 0 o tt)
 
 -- ---- the first octet
 

@@ -4,7 +4,7 @@ use mathlib.Core.Path.{◌≡◌, sym, ◌∙◌}
 use native.Mathlib.Omega.{arith}
 use lib.ListN.{length}
 use borrow.Author.Rules.{rules}
-use Rattle.kinds.proofs.Laws.Slots.{behind-none, open_in-end, openIn-open, openIn-filled, openIn-other}
+use Rattle.kinds.proofs.Laws.Slots.{behind-none, open_in-end, open_in-open, open_in-filled, open_in-other}
 use Rattle.kinds.proofs.judge.use_of.Goals as goal
 use Rattle.kinds.proofs.judge.use_of.Goals.{then-slot-id+else-places-i-eq0, else-slot-id}
 
@@ -17,7 +17,7 @@ returns-then-places-i-eq0 c =
     let a = c.args in
     let n : length a.slots ≡ 3 = search rules in
     let m : length a.places ≡ 3 = search rules in
-    sym (openIn-open a.slots a.places loop.i (omega arith) (omega arith) a.id loop.known c.if-slot-id.true c.if-places-i-eq0.true) ∙ loop.invariant.1
+    sym (open_in-open a.slots a.places loop.i (omega arith) (omega arith) a.id loop.known c.if-slot-id.true c.if-places-i-eq0.true) ∙ loop.invariant.1
 
 pub loop-i-preserved : goal.loop-i-preserved
 loop-i-preserved c =
@@ -27,8 +27,8 @@ loop-i-preserved c =
     let m : length a.places ≡ 3 = search rules in (
       omega arith,
       elim c.if-slot-id.branch [
-        | then-slot-id+else-places-i-eq0 w ↦ rw w.known-is (sym (openIn-filled a.slots a.places loop.i (omega arith) (omega arith) a.id loop.known w.if-slot-id.true w.if-places-i-eq0.false))
-        | else-slot-id w ↦ rw w.known-is (sym (openIn-other a.slots a.places loop.i (omega arith) (omega arith) a.id loop.known w.if-slot-id.false))
+        | then-slot-id+else-places-i-eq0 w ↦ rw w.known-is (sym (open_in-filled a.slots a.places loop.i (omega arith) (omega arith) a.id loop.known w.if-slot-id.true w.if-places-i-eq0.false))
+        | else-slot-id w ↦ rw w.known-is (sym (open_in-other a.slots a.places loop.i (omega arith) (omega arith) a.id loop.known w.if-slot-id.false))
       ]
           ∙ loop.invariant.1,
     )

@@ -1,4 +1,4 @@
--- `kinds::kind::kind_of` meets its contract: the kind goes by the letters as one number (`kindOf-letters`).
+-- `kinds::kind::kind_of` meets its contract: the kind goes by the letters as one number (`kind_of-letters`).
 -- Assumes nothing.
 use mathlib.Core.Path.{◌≡◌, ◌∙◌}
 use mathlib.Core.List.{List}
@@ -10,13 +10,13 @@ use borrow.Author.Tests.{eq-eqb, ne_eqb}
 use native.Mathlib.Omega.{arith}
 use Rattle.fields.specs.Header.{number_in}
 use Rattle.kinds.specs.Kind.{kind_of}
-use Rattle.kinds.proofs.Laws.Kinds.{kind_by, kindOf-letters, mcv2_kind-lt}
+use Rattle.kinds.proofs.Laws.Kinds.{kind_by, kind_of-letters, mcv2_kind-lt}
 use Rattle.kinds.proofs.kind.kind_of.Goals as goal
 
 -- the kind goes by the letters as they were read
 by-letters : (n : Numbers) (p : List ℕ) (letters : ℕ) → ((i : ℕ) → get_or p i 0 < 256) → 12 ≤ length p → letters ≡ big_at 4 p 8
     → kind_of n p ≡ kind_by n letters (number_in p)
-by-letters n p letters octets long e = rw e (kindOf-letters p octets long n)
+by-letters n p letters octets long e = rw e (kind_of-letters p octets long n)
 
 pub returns-then-letters-eq-MCV2 : goal.returns-then-letters-eq-MCV2
 unfolding number_in

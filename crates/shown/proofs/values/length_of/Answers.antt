@@ -4,7 +4,7 @@ use mathlib.Core.Path.{◌≡◌}
 use Prim.Native.Nat.{◌-◌}
 use native.Mathlib.Omega.{arith}
 use lib.ListN.{length}
-use Rattle.shown.proofs.Laws.Values.{length-valuesFrom-next, valuesFrom-none, names_from-next, names_from-all, names_from-none}
+use Rattle.shown.proofs.Laws.Values.{length-values_from-next, values_from-none, names_from-next, names_from-all, names_from-none}
 use Rattle.shown.proofs.values.length_of.Goals as goal
 
 pub loop-k-init : goal.loop-k-init
@@ -17,12 +17,12 @@ loop-k-preserved c =
     let n : length args.row ≡ 12 = omega arith in
     let names = names_from-next k (omega arith) in
     let text = rw c.value_in.ensures at c.value_length-length.ensures.0 in
-    let texts = length-valuesFrom-next args.packet.now args.row k (omega arith) n in
+    let texts = length-values_from-next args.packet.now args.row k (omega arith) n in
     (omega arith, omega arith, omega arith)
 
 pub returns : goal.returns
 returns c =
     let args = c.args in
     let e : c.loop-k.k ≡ 10 = omega arith in
-    let i = rw (e, valuesFrom-none args.packet.now args.row, names_from-none) at c.loop-k.invariant.1 in
+    let i = rw (e, values_from-none args.packet.now args.row, names_from-none) at c.loop-k.invariant.1 in
     (omega arith, omega arith)

@@ -8,7 +8,7 @@ use lib.ListN.{length, take, length-append}
 use lib.Seq.{length-take-le}
 use Rattle.octets.proofs.Buffer.{length-put_at, put_both}
 use Rattle.shown.specs.Inner.{entry_text, values_from}
-use Rattle.shown.proofs.Laws.Values.{text_at, entry_text-at, valuesFrom-next}
+use Rattle.shown.proofs.Laws.Values.{text_at, entry_text-at, values_from-next}
 use Rattle.shown.proofs.values.put_entry.Goals as goal
 use Rattle.shown.proofs.values.put_entry.Goals.{Start}
 
@@ -34,7 +34,7 @@ module _ (c : Start) where
   -- there is room for both and for the values behind them
   room : c.args.at + c.args.len + length text + length (values_from c.args.packet.now c.args.row (c.args.k + 1)) ≤ length c.args.out.now
   room =
-      let next = valuesFrom-next c.args.packet.now c.args.row c.args.k (omega arith) (omega arith) in
+      let next = values_from-next c.args.packet.now c.args.row c.args.k (omega arith) (omega arith) in
       let both : length (values_from c.args.packet.now c.args.row c.args.k)
       ≡ length name + length text + length (values_from c.args.packet.now c.args.row (c.args.k + 1)) =
       rw (next, entry, length-append, length-append) in
