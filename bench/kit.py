@@ -14,6 +14,8 @@ kept = root / "target" / "bench"
 machine = os.uname().machine
 kit = Path(subprocess.check_output(["rt", "doc"], text=True).strip()).parent
 clang = kit / "toolchain" / "bin" / "clang"
+# what the kit links a program with
+runtime = [kit / "c" / "libos_c.a", kit / "c" / "liblibc_c.a"]
 second = root / "target" / "second" / "release" / "second"
 
 
