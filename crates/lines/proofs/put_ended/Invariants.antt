@@ -1,4 +1,5 @@
 -- `lines::put_ended` meets its contract. The invariant: the lines up to a place are printed, there is room for those behind it, and
+-- the line there ends at `lf`.
 use mathlib.Core.Path.{◌≡◌}
 use Prim.Native.Nat.{◌+◌, ◌-◌}
 use lib.ListN.{length, drop}

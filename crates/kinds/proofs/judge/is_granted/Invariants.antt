@@ -1,4 +1,5 @@
 -- `kinds::judge::is_granted` meets its contract. The invariant: the walk goes to the end, and the first Result stands among the fields
+-- from the place on.
 use mathlib.Core.Path.{◌≡◌}
 use Prim.Native.Nat.{◌-◌}
 use lib.ListN.{length}

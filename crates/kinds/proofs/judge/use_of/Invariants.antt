@@ -1,4 +1,5 @@
 -- `kinds::judge::use_of` meets its contract. The invariant: the slots from i on, behind i slots of which one is known to have the ID
+-- or none, give the answer of them all.
 use mathlib.Core.Path.{◌≡◌}
 use Prim.Native.Nat.{◌-◌, ◌≤◌}
 use lib.ListN.{drop}

@@ -1,4 +1,5 @@
 -- `shown::values::length_of` meets its contract. The invariant: the sum has the names that are still to come already, and lacks the values
+-- from the k-th on.
 use mathlib.Core.Path.{◌≡◌}
 use Prim.Native.Nat.{◌+◌, ◌-◌, ◌*◌, ◌≤◌}
 use lib.ListN.{length}
