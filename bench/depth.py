@@ -10,7 +10,9 @@ PUSHED = {
     "x86_64": [(r"\tpushq\t", 8), (r"\tsubq\t\$(\d+), %rsp", None)],
     "aarch64": [(r"\tst[pr]\t.*\[sp, #-(\d+)\]!", None), (r"\tsub\tsp, sp, #(\d+)", None)],
 }
-CALLED = {"x86_64": r"\t(?:callq|jmp)\t(\"?[A-Za-z_][\w:.]*\"?)", "aarch64": r"\tbl?\t(\"?[A-Za-z_][\w:.]*\"?)"}
+# a function's name, in quotes where it has more than letters, as that of a generic function has
+NAME = r"(\"[^\"]+\"|[A-Za-z_][\w:.]*)"
+CALLED = {"x86_64": r"\t(?:callq|jmp)\t" + NAME, "aarch64": r"\tbl?\t" + NAME}
 RETURN = {"x86_64": 8, "aarch64": 0}
 # every call has less than this, but for the one that lays out tables of User IDs
 LIMIT = 256
@@ -23,7 +25,7 @@ def frames(arch, text):
     """Of each function: its frame, what it uses below that, and whom it calls."""
     found, name = {}, None
     for line in text.splitlines():
-        label = re.match(r'("?[A-Za-z_][\w:.]*"?):', line)
+        label = re.match(NAME + ":", line)
         if label:
             name = label[1]
             found[name] = [0, 0, set()]

@@ -1,20 +1,17 @@
-// What a field step says, among the octets of an answer: five numbers of eight octets. Of a field they are 1, its place,
-// ID and length, and the next place; of the end 2 and zeros; of a refusal 3, its number, its place, and zeros.
-use super::reply::Reply;
-use fields::field::Step;
+// What stands at a place of some octets, among the octets of an answer: five numbers of eight octets. Of a field they are 1, its place,
+// ID and length, and the next place; of the end 2 and zeros; of a refusal 3, its number, its line, and zeros.
+use asked::reply::Reply;
+use fields::field::Field;
+use sheet::Refusal;
 
 // How many octets that takes.
 pub const LENGTH: usize = 40;
 
-fn row(reply: Reply, a: usize, b: usize, c: usize, d: usize, e: usize) -> Reply {
-    reply.count(a).count(b).count(c).count(d).count(e)
-}
-
-// Puts what a step says.
-pub fn put_step(reply: Reply, step: Step) -> Reply {
-    match step {
-        Step::Field(field) => row(reply, 1, field.at, field.id as usize, field.len, field.next),
-        Step::End => row(reply, 2, 0, 0, 0, 0),
-        Step::Refused(refusal) => row(reply, 3, refusal.number as usize, refusal.at as usize, 0, 0),
-    }
+// Puts what is said of a place.
+pub fn put_step(reply: Reply, said: Result<Option<Field>, Refusal>) -> Reply {
+    reply.counts(&match said {
+        Ok(Some(field)) => [1, field.at, usize::from(field.id), field.len, field.next],
+        Ok(None) => [2, 0, 0, 0, 0],
+        Err(refusal) => [3, refusal.number() as usize, refusal.line() as usize, 0, 0],
+    })
 }

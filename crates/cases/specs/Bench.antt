@@ -1,12 +1,15 @@
 -- The bench cases (document 01, "Bench cases"), P1 to P13 and the example of `mcvlook`, as one list: each line is a case as the document has it, and
 -- `Bench` says that every line holds. What a line expects is written out. Assumes nothing.
-use Rattle.std.specs.Prelude.{◌≡◌, ℕ, false, List, [], ◌∷◌, ◌++◌, map, length, replicate}
+use Rattle.std.specs.Prelude.{◌≡◌, ℕ, false, List, [], ◌∷◌, ◌++◌, map, length, replicate, Result, Ok, Err}
 use Prim.Native.String.{String}
 use Rattle.std.proofs.Math.Option.{Option, none, some}
 use Rattle.octets.specs.Choice.{All}
 use Rattle.octets.specs.Text.{ascii}
 use Rattle.octets.specs.Hex.{hex_octets}
+use Rattle.sheet.specs.declared.Refusal.{Refusal}
 use Rattle.sheet.specs.declared.Sheet.{Sheet}
+use Rattle.sheet.specs.Value.{sheet_of}
+use Rattle.sheet_text.specs.declared.Reading.{Reading}
 use Rattle.sheet_text.specs.Reading as sheet
 use Rattle.sheet_line.specs.Line.{lf}
 use Rattle.kinds.specs.Reading as packet
@@ -40,8 +43,12 @@ text_with limit =
     ∷ "resultid=20" ∷ "seats=3" ∷ "seat=1,sip:a" ∷ "seat=2,sip:b" ∷ "seat=3,sip:c" ∷ [])
 
 -- what it reads to, and the User IDs beside that
+abbrev pub value_read : Result Reading Refusal → Sheet
+value_read (Ok r) = r.sheet
+value_read (Err refusal) = sheet_of []
+
 unfoldable pub sheet_with : String → Sheet
-sheet_with limit = (sheet.read_of (text_with limit)).sheet
+sheet_with limit = value_read (sheet.read_of (text_with limit))
 
 abbrev pub limit_s : String
 limit_s = "limit=1"

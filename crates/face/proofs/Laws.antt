@@ -1,6 +1,7 @@
 pub mod Told
 pub mod Reception
 pub mod Packets
+pub mod Fields
 pub mod Off
 pub mod Steps
 pub mod Wrote

@@ -1,9 +1,8 @@
 -- What each call of the face says: the definition of the call below it, on what the rows stand for. What no value stands for is refused as what it is: a
 -- sheet with 12 line 0, before all else; a message with 5; a record, an event, an attempt, an answer or a stream with 9. A slice that is too short for what
 -- comes back is 11, last of all (docs/DECISIONS.md, 71). Assumes nothing.
-use Rattle.std.specs.Prelude.{ℕ, ◌^◌, List, [], ◌∷◌, eqb, ltb}
+use Rattle.std.specs.Prelude.{ℕ, ◌^◌, List, [], ◌∷◌, ltb}
 use Rattle.std.proofs.Math.Option.{Option, none, some}
-use Rattle.octets.specs.Choice.{pick}
 use Rattle.sheet.specs.Value.{sheet_in, valid_alone}
 use Rattle.sheet_text.specs.declared.Reading.{Reading}
 use Rattle.sheet_text.specs.Reading.{read_of as sheet_read}
@@ -16,7 +15,7 @@ use Rattle.streams.specs.declared.Record.{Record}
 use Rattle.streams.specs.declared.Event.{Event}
 use Rattle.streams.specs.Record.{own}
 use Rattle.streams.specs.Answer.{Reply}
-use Rattle.reception.specs.Steps.{Said, gives, refuses, check, Left, Try, read_of, attempt_of, store_of, count_of}
+use Rattle.reception.specs.Steps.{Said, gives, refuses, check, Left, Try, said_by, read_of, attempt_of, store_of, count_of}
 use Rattle.incoming.specs.Event.{event_of}
 use Rattle.outgoing.specs.Sending.{sending_in, octets_out}
 use Rattle.rows.specs.Rows.{field_row, end_row, record_row, records_row, records_in, event_row, event_in, reply_row, answer_in, try_row, try_in}
@@ -33,9 +32,7 @@ standing number (some x) next = next x
 
 -- a sheet that was read, or 12 with its line
 unfoldable pub sheet_says : List ℕ → Said Reading
-sheet_says text =
-    let r = sheet_read text in
-    pick (eqb r.refusal.number 0) (gives r) (refuses r.refusal.number r.refusal.at)
+sheet_says text = said_by (λ (x : Reading). x) (sheet_read text)
 
 abbrev pub outcome_says : Outcome → Said (List ℕ)
 outcome_says (reads kind ssrc ack values) = gives (message_row (reads kind ssrc ack values))

@@ -1,30 +1,26 @@
 -- What the inner functions say. The public promises rest on these, and nobody need believe them: each is only a step of a proof. Assumes nothing.
-use Rattle.std.specs.Prelude.{◌≡◌, ℕ, ◌≤◌, false, ◌&&◌, List, [], ◌∷◌}
-use Rattle.std.proofs.Math.Option.{some}
-use Rattle.sheet.specs.Value.{sheet_in}
-use Rattle.writing.specs.declared.Writing.{Writing}
-use Rattle.writing.specs.declared.Writing.TheVariants.{Written, Refused as NotWritten}
+use Rattle.std.specs.Prelude.{◌≡◌, ℕ, ◌≤◌, false, ◌&&◌, List, ltb, Result, Ok, Err}
+use Rattle.std.proofs.Math.Option.{Option, none, some}
+use Rattle.octets.specs.Choice.{pick}
+use Rattle.sheet.specs.declared.Sheet.{Sheet}
+use Rattle.sheet.specs.declared.Refusal.{Refusal}
+use Rattle.sheet.specs.declared.Refusal.TheVariants.{NotLegal, Sheet as NoSheet}
+use Rattle.sheet.specs.Value.{sheet_in, valid_alone}
 use Rattle.streams.specs.declared.Event.{Event}
-use Rattle.streams.specs.declared.Record.{Record}
 use Rattle.streams.specs.declared.stream.Rules.{Rules}
 use Rattle.streams.specs.Record.{on_sheet, legal}
 use Rattle.streams.specs.Table.{sender_on}
-use Rattle.reception.specs.declared.Attempt.{Attempt}
-use Rattle.reception.specs.Steps.{Said, gives, refuses, Try, attempt_said, store_of}
-use Rattle.rows.specs.declared.event.Eventing.{Eventing}
-use Rattle.rows.specs.declared.event.Eventing.TheVariants.{Event as EventingEvent, Nothing as NoEvent}
-use Rattle.rows.specs.declared.attempt.Trying.{Trying}
-use Rattle.rows.specs.declared.attempt.Trying.TheVariants.{Attempt as TryingAttempt, Nothing as NoAttempt}
-use Rattle.rows.specs.Rows.{records_in, event_in, try_in}
-use Rattle.face.specs.Calls.{left_says}
-use Rattle.face.specs.Promises.{Keeps}
+use Rattle.reception.specs.Steps.{Try}
+use Rattle.rows.specs.Rows.{is_some, records_in, event_in, try_in}
 
--- ---- packets
+-- 12 line 0 before 9
+abbrev pub misfit_of : Sheet → Refusal
+misfit_of s = pick (valid_alone s) NotLegal (NoSheet 0)
 
--- how many octets were written, as a number to put, or the refusal
-abbrev pub writing_says : Writing → Said (List ℕ)
-writing_says (Written octets) = gives (octets ∷ [])
-writing_says (NotWritten number) = refuses number 0
+-- the stream's number where there are eight records and it fits an octet, else that
+abbrev pub StreamIn : List ℕ → List ℕ → ℕ → Result ℕ Refusal → Type 0
+StreamIn sheet records stream r =
+    r ≡ pick (is_some (records_in 8 records) && ltb stream 256) (Ok stream) (Err (misfit_of (sheet_in sheet)))
 
 -- ---- events
 
@@ -32,9 +28,9 @@ writing_says (NotWritten number) = refuses number 0
 abbrev pub Nowhere : Event → Type 0
 Nowhere e = (q : Rules) → q.seats ≤ 8 → (on_sheet q e.stream && sender_on q e.what) ≡ false
 
-abbrev pub EventingIs : List ℕ → Eventing → Type 0
-EventingIs row (EventingEvent e) = event_in row ≡ some e
-EventingIs row NoEvent = (e : Event) → event_in row ≡ some e → Nowhere e
+abbrev pub EventingIs : List ℕ → Option Event → Type 0
+EventingIs row (some e) = event_in row ≡ some e
+EventingIs row none = (e : Event) → event_in row ≡ some e → Nowhere e
 
 -- ---- attempts
 
@@ -43,11 +39,6 @@ abbrev pub NeverLegal : Try → Type 0
 NeverLegal a =
     (q : Rules) → q.seats ≤ 8 → (on_sheet q a.stream && (legal q a.stream a.seen && legal q a.stream a.wanted)) ≡ false
 
-abbrev pub TryingIs : List ℕ → Trying → Type 0
-TryingIs row (TryingAttempt a) = try_in row ≡ some (attempt_said a)
-TryingIs row NoAttempt = (a : Try) → try_in row ≡ some a → NeverLegal a
-
--- what is stored of an attempt in the eight records that the octets are
-abbrev pub Stores : List ℕ → Attempt → List ℕ → List ℕ → ℕ → List ℕ → List ℕ → Type 0
-Stores sheet a records answer r now told =
-    (rs : List Record) → records_in 8 records ≡ some rs → Keeps (left_says (store_of (sheet_in sheet) (attempt_said a) rs)) records answer r now told
+abbrev pub TryingIs : List ℕ → Option Try → Type 0
+TryingIs row (some a) = try_in row ≡ some a
+TryingIs row none = (a : Try) → try_in row ≡ some a → NeverLegal a

@@ -1,4 +1,3 @@
 pub mod Reader
-pub mod Inner
 pub mod Promises
 pub mod Claims

@@ -1,10 +1,11 @@
 -- What each public function promises, one predicate a function, NAME≡: the equation that its answer meets, for every input.
 -- Beside it, NAME-once: no second answer meets it. Assumes nothing.
-use Rattle.std.specs.Prelude.{◌≡◌, ℕ, List}
+use Rattle.std.specs.Prelude.{◌≡◌, ℕ, List, Option, Result}
 use Rattle.std.proofs.Common.{ap₂}
 use Rattle.std.specs.Borrow.{Bor}
 use Rattle.octets.specs.Promises.{one_answer, one_value}
-use Rattle.fields.specs.declared.field.Step.{Step}
+use Rattle.sheet.specs.declared.Refusal.{Refusal}
+use Rattle.fields.specs.declared.field.Field.{Field}
 use Rattle.fields.specs.Walk.{step_said}
 use Rattle.fields.specs.Apart.{step_apart}
 use Rattle.field_reader.specs.declared.FieldReader.{FieldReader}
@@ -27,11 +28,11 @@ pub next_field-once : (reader : FieldReader) (x y : Handed) → next_field≡ re
 next_field-once reader x y e f =
     let same : x.reader ≡ y.reader = one_value x.reader y.reader e.0 f.0 in
     let said : x.said ≡ y.said = one_answer step_said step_apart x.said y.said e.1 f.1 in
-    ap₂ (λ (r : FieldReader) (s : Step). record { reader = r; said = s }) same said
+    ap₂ (λ (r : FieldReader) (s : Result (Option Field) Refusal). record { reader = r; said = s }) same said
 
 -- one step of a reader at a place: the field, the end, or 1, 2 or 4
-abbrev pub field_in≡ : List ℕ → ℕ → Step → Type 0
+abbrev pub field_in≡ : List ℕ → ℕ → Result (Option Field) Refusal → Type 0
 field_in≡ p at r = step_said r ≡ field_in p at
 
-pub field_in-once : (p : List ℕ) (at : ℕ) (x y : Step) → field_in≡ p at x → field_in≡ p at y → x ≡ y
+pub field_in-once : (p : List ℕ) (at : ℕ) (x y : Result (Option Field) Refusal) → field_in≡ p at x → field_in≡ p at y → x ≡ y
 field_in-once p at x y e f = one_answer step_said step_apart x y e f

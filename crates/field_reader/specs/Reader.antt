@@ -1,12 +1,12 @@
 -- The reader that remembers its packet and its place (document 01, "Packet"): it "hands out one field at a time, made only after checks
 -- 1 and 2; at the end it says so; at a bad field, or a place below 12, off a word or past the end, it refuses with 4 and stays". What a
 -- step says is `step_of` of Walk. Assumes nothing.
-use Rattle.std.specs.Prelude.{ℕ, List}
+use Rattle.std.specs.Prelude.{ℕ, List, Option, Some, None, Result, Ok, Err}
 use Rattle.std.specs.Borrow.{Bor}
 use Rattle.sheet.specs.declared.Refusal.{Refusal}
 use Rattle.field_reader.specs.declared.FieldReader.{FieldReader}
 use Rattle.field_reader.specs.declared.Made.{Made}
-use Rattle.fields.specs.Header.{past_checks, failed_check}
+use Rattle.fields.specs.Header.{past_checks, checked}
 use Rattle.fields.specs.Walk.{Stepped, field, end, refused, step_of}
 
 abbrev pub reader_at : Bor (List ℕ) → ℕ → FieldReader
@@ -14,9 +14,10 @@ reader_at packet at = record { packet = packet; at = at }
 
 -- ---- making one
 
--- 1 or 2, or 0 past both; it "returns its number only"
-abbrev pub refusal_of : List ℕ → Refusal
-refusal_of p = record { number = failed_check p; at = 0 }
+-- 1 or 2, or none past both
+abbrev pub refusal_in : Result Unit Refusal → Option Refusal
+refusal_in (Ok u) = None
+refusal_in (Err r) = Some r
 
 -- A reader starts at the place asked for. Beside a refusal stands one at octet 0, which is below 12: it hands out nothing.
 unfoldable pub start_of : List ℕ → ℕ → ℕ
@@ -24,7 +25,7 @@ start_of p at = past_checks (λ (number : ℕ). 0) p at
 
 abbrev pub made_of : Bor (List ℕ) → ℕ → Made
 made_of packet at =
-    record { reader = reader_at packet (start_of packet.now at); refusal = refusal_of packet.now }
+    record { reader = reader_at packet (start_of packet.now at); refusal = refusal_in (checked packet.now) }
 
 -- ---- a step
 

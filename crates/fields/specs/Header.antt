@@ -1,8 +1,10 @@
 -- The header of a packet (document 01, "Packet"; RFC 3550, 6.7, the APP packet). Stricter than RFC 3550: one packet fills the
 -- lent slice, and the padding bit is clear. Assumes nothing.
-use Rattle.std.specs.Prelude.{ℕ, ◌+◌, ◌*◌, ◌/◌, ◌%◌, Bool, ◌&&◌, List, length, get_or, take, drop, leb, eqb}
+use Rattle.std.specs.Prelude.{ℕ, ◌+◌, ◌*◌, ◌/◌, ◌%◌, Bool, ◌&&◌, List, length, get_or, take, drop, leb, eqb, Result, Ok, Err}
 use Rattle.octets.specs.Choice.{pick}
 use Rattle.octets.specs.Big.{big_at}
+use Rattle.sheet.specs.declared.Refusal.{Refusal}
+use Rattle.sheet.specs.Refusal.{refusal_by}
 
 -- the fields follow the header's twelve octets
 abbrev pub first_field : ℕ
@@ -27,9 +29,9 @@ head_right p = version_right p && (eqb (get_or p 1 0) 204 && eqb ((big_at 2 p 2 
 abbrev pub past_checks {ℓ} : {A : Type ℓ} → (ℕ → A) → List ℕ → A → A
 past_checks refuse p next = pick (size_right p) (pick (head_right p) next (refuse 2)) (refuse 1)
 
--- the number of the one that fails, or 0
-unfoldable pub failed_check : List ℕ → ℕ
-failed_check p = past_checks (λ (number : ℕ). number) p 0
+-- the refusal of the one that fails, which "returns its number only"
+unfoldable pub checked : List ℕ → Result Unit Refusal
+checked p = past_checks (λ (number : ℕ). Err (refusal_by number 0)) p (Ok tt)
 
 -- "The first bit of the subtype asks for an Ack; the other four are the message's number from the sheet"
 unfoldable pub ack_asked : List ℕ → Bool

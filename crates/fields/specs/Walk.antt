@@ -2,10 +2,11 @@
 -- padding to the next word, not counted in the length". Stricter than TS 24.581: an ID of 192 or more is refused (house), and
 -- padding that is not zero. Assumes nothing.
 use Rattle.std.specs.Prelude.{ℕ, zero, suc, ◌+◌, ◌-◌, ◌*◌, ◌/◌, ◌%◌, Bool, ◌&&◌, List, [], ◌∷◌, length, get_or, take, drop, leb, ltb, eqb}
+use Rattle.std.specs.Prelude.{Option, Some, None, Result, Ok, Err}
 use Rattle.octets.specs.Choice.{pick, every}
+use Rattle.sheet.specs.declared.Refusal.{Refusal}
+use Rattle.sheet.specs.Refusal.{refusal_number, refusal_line}
 use Rattle.fields.specs.declared.field.Field.{Field}
-use Rattle.fields.specs.declared.field.Step.{Step}
-use Rattle.fields.specs.declared.field.Step.TheVariants.{Field as FieldStep, End as EndStep, Refused as RefusedStep}
 use Rattle.fields.specs.Header.{first_field, word}
 
 -- ---- one field, by its place
@@ -88,7 +89,7 @@ step_of p at =
     (refused 4 0)
 
 -- what an answer says of a place
-abbrev pub step_said : Step → Stepped
-step_said (FieldStep f) = field f
-step_said EndStep = end
-step_said (RefusedStep r) = refused r.number r.at
+abbrev pub step_said : Result (Option Field) Refusal → Stepped
+step_said (Ok (Some f)) = field f
+step_said (Ok None) = end
+step_said (Err r) = refused (refusal_number r) (refusal_line r)

@@ -17,57 +17,48 @@ pub struct Field {
     pub next: usize,
 }
 
-// What a step says: the field at a place, the end, or a refusal.
-#[derive(Clone, Copy)]
-pub enum Step {
-    Field(Field),
-    End,
-    Refused(Refusal),
-}
-
-// Refusal 4.
-const BAD: Refusal = Refusal { number: 4, at: 0 };
-
 // Not a place below 12, off a word or past the end.
+#[tactic(auto, unfolding(crate::specs::Walk::place_right))]
 fn is_place_right(packet: &[u8], at: usize) -> bool
     ensures { result ≡ place_right packet.now at }
 {
-    (FIRST_FIELD <= at) & ((at % 4 == 0) & (at <= packet.len()))
+    FIRST_FIELD <= at && at % 4 == 0 && at <= packet.len()
 }
 
-// Past the field at a place, where it is right; else the place itself.
-fn past_field(packet: &[u8], at: usize) -> usize
+// Where the field at a place ends with its padding; none where it is a bad one.
+fn past_field(packet: &[u8], at: usize) -> Option<usize>
     requires { at ≤ length packet.now }
     ensures { result ≡ past_field packet.now at }
 {
     if packet.len() - at < 4 {
-        return at;
+        return None;
     }
-    let next = at + size_of(packet[at + 1]);
+    let next = at + size_of(packet[at + 1] as u32);
     if packet.len() < next {
-        return at;
+        return None;
     }
-    walk(&packet[..next], at)
+    if walk(&packet[..next], at) == next {
+        Some(next)
+    } else {
+        None
+    }
 }
 
-// The field at a place of any octets; the end; or 4 for a bad field, or a place below 12, off a word or past the end.
-pub fn field_at(packet: &[u8], at: usize) -> Step
+// The field at a place of any octets; none at the end; or 4 for a bad field, or a place below 12, off a word or past the end.
+pub fn field_at(packet: &[u8], at: usize) -> Result<Option<Field>, Refusal>
     ensures { field_at≡ packet.now at result }
 {
     if !is_place_right(packet, at) {
-        return Step::Refused(BAD);
+        return Err(Refusal::Layout);
     }
     if at == packet.len() {
-        return Step::End;
+        return Ok(None);
     }
-    let next = past_field(packet, at);
-    if next == at {
-        return Step::Refused(BAD);
-    }
-    Step::Field(Field {
+    let next = past_field(packet, at).ok_or(Refusal::Layout)?;
+    Ok(Some(Field {
         at,
         id: packet[at],
         len: packet[at + 1] as usize,
         next,
-    })
+    }))
 }

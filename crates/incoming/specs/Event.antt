@@ -1,8 +1,9 @@
 -- The event that a packet makes (document 01, "Stream record": "A packet makes an event only so: kinds 1 and 3 by sender's seat, stream found
 -- from Source ID or User ID; kind 6 on the sender's own stream"; "Refusals": 12 line 0, 1 to 5, then 8, 6, 7). Assumes nothing.
-use Rattle.std.specs.Prelude.{ℕ, Bool, List, map, get_or, eqb}
+use Rattle.std.specs.Prelude.{ℕ, Bool, List, map, get_or, Result, eqb}
 use Rattle.std.proofs.Math.Option.{Option, none, some}
 use Rattle.octets.specs.Choice.{pick, same}
+use Rattle.sheet.specs.declared.Refusal.{Refusal}
 use Rattle.sheet.specs.declared.Sheet.{Sheet}
 use Rattle.seats.specs.declared.Senders.{Senders}
 use Rattle.sheet.specs.Value.{valid_with}
@@ -12,9 +13,7 @@ use Rattle.packet.specs.Meaning.{Value, nothing, Meaning, value_in, name_held}
 use Rattle.streams.specs.declared.Event.{Event}
 use Rattle.streams.specs.declared.What.{What}
 use Rattle.streams.specs.declared.What.TheVariants.{Request, End, EndResponse}
-use Rattle.reception.specs.Steps.{Said, gives, refuses, check, refusal_said}
-use Rattle.incoming.specs.declared.Offered.{Offered}
-use Rattle.incoming.specs.declared.Offered.TheVariants.{Event as OfferedEvent, Refused}
+use Rattle.reception.specs.Steps.{Said, gives, refuses, check, said_by}
 
 -- ---- the seats
 
@@ -70,6 +69,5 @@ event_of s users p = check (valid_with s users) 12 (event_from (senders_of s) us
 
 -- ---- the answers of the code set out
 
-abbrev pub offered_said : Offered → Said Event
-offered_said (OfferedEvent e) = gives e
-offered_said (Refused r) = refusal_said r
+abbrev pub offered_said : Result Event Refusal → Said Event
+offered_said r = said_by (λ (e : Event). e) r

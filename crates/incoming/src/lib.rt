@@ -3,43 +3,51 @@
 
 mod event;
 
-ghost use Rattle.std.specs.Prelude.{◌≡◌};
+ghost use Rattle.std.specs.Prelude.{◌≡◌, length};
 ghost use Rattle.sheet.specs.Value.{sheet_in};
+ghost use Rattle.incoming.specs.Event.{senders_of};
 ghost use Rattle.incoming.specs.Promises.{event_of≡};
 
+use event::Offered;
 use reception::Event;
-use seats::are_valid_with;
-use sheet::numbers::numbers_of;
-use sheet::{Refusal, Sheet, Users};
+use seats::{Senders, are_valid_with};
+use sheet::numbers::{LINES, NUMBER_LINES, SEATS_LINE, numbers_of};
+use sheet::{Refusal, SEATS, Sheet, Users};
 
-// The event that a packet makes, or why it makes none.
-#[derive(Clone, Copy)]
-pub enum Offered {
-    Event(Event),
-    Refused(Refusal),
-}
-
-// A refusal by its number alone.
-fn refusal(number: u32) -> Refusal
-    ensures { (result.number ≡ number) × (result.at ≡ 0) }
+// What a search by SSRC looks at of a sheet's numbers.
+fn senders_in(numbers: &[u32]) -> Senders
+    requires { length numbers.now ≡ 19 }
+    ensures { result ≡ senders_of (sheet_in numbers.now) }
 {
-    Refusal { number, at: 0 }
+    let mut ssrcs = [0; SEATS];
+    ssrcs.copy_from_slice(&numbers[NUMBER_LINES..LINES]);
+    Senders {
+        seats: numbers[SEATS_LINE],
+        ssrcs,
+    }
 }
 
 // The event that a packet makes, or 12 line 0, 1 to 5, 8, 6 or 7, checked in that order. A sheet's numbers and the User IDs are lent.
-pub fn event_lent(numbers: &[u32], users: &Users, packet: &[u8]) -> Offered
+pub fn event_lent(numbers: &[u32], users: &Users, packet: &[u8]) -> Result<Event, Refusal>
     ensures { event_of≡ (sheet_in numbers.now) users.now packet.now result }
 {
     if !are_valid_with(numbers, users) {
-        return Offered::Refused(refusal(12));
+        return Err(Refusal::Sheet(0));
     }
-    event::event_in(numbers, users, packet)
+    let Some(asked) = packet::asked_lent(numbers, packet)? else {
+        return Err(Refusal::NoEvent);
+    };
+    let offered = Offered {
+        senders: senders_in(numbers),
+        users,
+        packet,
+    };
+    offered.event(asked)
 }
 
-// The same, sheet and User IDs by value.
-pub fn event_of(sheet: Sheet, users: Users, packet: &[u8]) -> Offered
+// The same, sheet and User IDs by value, as document 01 hands them over; C lends the numbers. A trait over both forms would be longer than this one call.
+pub fn event_of(sheet: Sheet, users: Users, packet: &[u8]) -> Result<Event, Refusal>
     ensures { event_of≡ sheet users packet.now result }
 {
-    let numbers = numbers_of(sheet);
-    event_lent(&numbers[..], &users, packet)
+    event_lent(&numbers_of(sheet), &users, packet)
 }

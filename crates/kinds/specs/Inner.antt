@@ -1,29 +1,39 @@
 -- What the inner functions say of the octets and places that they look at. The public promise rests on these, and nobody need
 -- believe them: each is only a step of a proof. Assumes nothing.
-use Rattle.std.specs.Prelude.{◌≡◌, ℕ, zero, suc, ◌+◌, ◌-◌, ◌≤◌, ◌<◌, Bool, false, ◌&&◌, ◌||◌, List, [], ◌∷◌, length, get_or, T, leb, eqb}
+use Rattle.std.specs.Prelude.{◌≡◌, ℕ, ◌+◌, ◌-◌, ◌≤◌, Bool, ◌&&◌, List, [], ◌∷◌, length, get_or, T, leb, eqb, position, Some, None, Result, Ok, Err}
+use Rattle.std.specs.Prelude.{Option as Maybe}
+use Rattle.std.specs.List.{zip, list_any}
 use Rattle.std.proofs.Math.Option.{Option, none, some}
 use Rattle.octets.specs.Choice.{pick, every}
 use Rattle.octets.specs.Big.{big_at}
+use Rattle.sheet.specs.declared.Refusal.{Refusal}
+use Rattle.sheet.specs.declared.Refusal.TheVariants.{Fields}
+use Rattle.sheet.specs.Refusal.{refusal_number, refusal_line}
 use Rattle.fields.specs.Header.{first_field, ssrc_in, ack_asked}
 use Rattle.fields.specs.Walk.{fields_of, stop_from}
 use Rattle.kinds.specs.declared.Numbers.{Numbers}
 use Rattle.kinds.specs.declared.Found.{Found}
 use Rattle.kinds.specs.declared.kind.Slot.{Slot}
-use Rattle.kinds.specs.declared.judge.Judged.{Judged}
-use Rattle.kinds.specs.declared.judge.Use.{Use}
-use Rattle.kinds.specs.declared.judge.Use.TheVariants.{Fills, Repeats, Skipped}
+use Rattle.kinds.specs.declared.kind.Kind.{Kind as MessageKind}
+use Rattle.kinds.specs.declared.kind.Kind.TheVariants.{EndRequest, EndResponse, TransmissionEnd, TransmissionEndResponse, Ack}
+use Rattle.kinds.specs.Kind.{Kind}
 use Rattle.kinds.specs.Judge.{Held, absent, given, named, fault_of}
 use Rattle.kinds.specs.Reading.{Outcome, reads, refused}
-use Rattle.kinds.specs.Found.{places_in, found_in}
+use Rattle.kinds.specs.Found.{kind_number, kind_numbered, places_in, found_in}
 
--- the kind of MCV2 with a number, or 0
-unfoldable pub mcv2_kind : Numbers → ℕ → ℕ
+-- the row of a kind, where there is one
+abbrev pub row_found : Numbers → Maybe MessageKind → Option Kind
+row_found n None = none
+row_found n (Some kind) = kind_numbered n (kind_number kind)
+
+-- the kind of MCV2 with a number
+unfoldable pub mcv2_kind : Numbers → ℕ → Maybe MessageKind
 mcv2_kind n number =
-    pick (eqb number n.endrequest) 3
-    (pick (eqb number n.endresponse) 4
-    (pick (eqb number n.txend) 5
-    (pick (eqb number n.txendresponse) 6
-    (pick (eqb number n.ack) 7 0))))
+    pick (eqb number n.endrequest) (Some EndRequest)
+    (pick (eqb number n.endresponse) (Some EndResponse)
+    (pick (eqb number n.txend) (Some TransmissionEnd)
+    (pick (eqb number n.txendresponse) (Some TransmissionEndResponse)
+    (pick (eqb number n.ack) (Some Ack) None))))
 
 -- ---- a packet whose walk is whole
 
@@ -38,40 +48,26 @@ pub record Walked (p : List ℕ) : Type 0 where
 unfoldable pub PlacesInside : List ℕ → List ℕ → Type 0
 PlacesInside p places = T (every (λ (a : ℕ). leb (a + 4) (length p)) places)
 
--- no place, or a place that is not 0
-abbrev pub placed : ℕ → Option ℕ
-placed zero = none
-placed (suc n) = some (suc n)
+-- no field is at fault or missing, and these are their places; or one is, and that is 5
+abbrev pub JudgedIs : List ℕ → List Slot → Result (List ℕ) Refusal → Type 0
+JudgedIs p slots (Ok places) = (fault_of p slots (fields_of p) ≡ none) × (places ≡ places_in slots (fields_of p)) × PlacesInside p places
+JudgedIs p slots (Err r) = ((at : ℕ) × (fault_of p slots (fields_of p) ≡ some at)) × (r ≡ Fields)
 
-pub record JudgedIs (p : List ℕ) (slots : List Slot) (r : Judged) : Type 0 where
-  pub fault : fault_of p slots (fields_of p) ≡ placed r.fault
-  pub places : r.fault ≡ 0 → r.places ≡ places_in slots (fields_of p)
-  pub inside : PlacesInside p r.places
+-- a slot with an ID, and its place, is open
+abbrev pub opens : ℕ → Slot × ℕ → Bool
+opens id at = eqb at.0.id id && eqb at.1 0
 
--- one slot further on
-abbrev pub later : Use → Use
-later (Fills i) = Fills (suc i)
-later Repeats = Repeats
-later Skipped = Skipped
+-- the first that is
+abbrev pub open_in : List Slot → List ℕ → ℕ → Maybe ℕ
+open_in slots places id = position (opens id) (zip slots places)
 
--- behind a slot with the ID that is filled
-abbrev pub again : Use → Use
-again (Fills i) = Fills (suc i)
-again Repeats = Repeats
-again Skipped = Repeats
-
--- the first slot with an ID that is still open
-unfoldable pub open_in : List Slot → List ℕ → ℕ → Use
-open_in [] places id = Skipped
-open_in (s ∷ slots) [] id = Skipped
-open_in (s ∷ slots) (a ∷ places) id =
-    pick (eqb s.id id) (pick (eqb a 0) (Fills 0) (again (open_in slots places id))) (later (open_in slots places id))
+-- a slot has the ID
+abbrev pub used_in : List Slot → ℕ → Bool
+used_in slots id = list_any (λ (s : Slot). eqb s.id id) slots
 
 -- a slot that must be filled is open
-unfoldable pub lack_in : List Slot → List ℕ → Bool
-lack_in [] places = false
-lack_in (s ∷ slots) [] = false
-lack_in (s ∷ slots) (a ∷ places) = (s.must && eqb a 0) || lack_in slots places
+abbrev pub lack_in : List Slot → List ℕ → Bool
+lack_in slots places = list_any (λ (at : Slot × ℕ). at.0.must && eqb at.1 0) (zip slots places)
 
 -- ---- values by the places of their fields
 
@@ -110,21 +106,27 @@ values_from kind p places =
 
 -- ---- what a packet was found to be
 
--- the message that it is, or the refusal
-abbrev pub read_from : List ℕ → Found → Outcome
-read_from p f =
-    pick (eqb f.refusal 0) (reads f.kind (ssrc_in p) (ack_asked p) (values_from f.kind p f.places)) (refused f.refusal 0)
+-- the message that it is
+abbrev pub read_as_found : List ℕ → Found → Outcome
+read_as_found p f = reads (kind_number f.kind) (ssrc_in p) (ack_asked p) (values_from (kind_number f.kind) p f.places)
 
--- one of the seven kinds, its fields inside
+-- the message, or the refusal
+abbrev pub read_from : List ℕ → Result Found Refusal → Outcome
+read_from p (Ok f) = read_as_found p f
+read_from p (Err r) = refused (refusal_number r) (refusal_line r)
+
+-- its fields lie inside
 pub record Sorted (p : List ℕ) (f : Found) : Type 0 where
-  pub above : 0 < f.kind
-  pub below : f.kind < 8
   pub least : first_field ≤ length p
   pub most : length p ≤ 256
   pub inside : PlacesInside p f.places
 
+abbrev pub SortedIn : List ℕ → Result Found Refusal → Type 0
+SortedIn p (Ok f) = Sorted p f
+SortedIn p (Err r) = Unit {0}
+
 -- a packet that reads so was found to be this, and this reads so
-pub record FoundIs (n : Numbers) (p : List ℕ) (o : Outcome) (f : Found) : Type 0 where
-  pub is : f ≡ found_in n p o
-  pub told : read_from p f ≡ o
-  pub sorted : f.refusal ≡ 0 → Sorted p f
+pub record FoundIs (n : Numbers) (p : List ℕ) (o : Outcome) (r : Result Found Refusal) : Type 0 where
+  pub is : r ≡ found_in n p o
+  pub told : read_from p r ≡ o
+  pub sorted : SortedIn p r

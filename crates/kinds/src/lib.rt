@@ -6,11 +6,17 @@ pub mod codes;
 mod judge;
 mod kind;
 
-ghost use Rattle.std.specs.Prelude.{◌≡◌, ◌<◌};
 ghost use Rattle.kinds.specs.Reading.{read_as};
-ghost use Rattle.kinds.specs.Found.{kind_numbered, none_found};
-ghost use Rattle.kinds.specs.Inner.{Walked, FoundIs};
+ghost use Rattle.kinds.specs.Found.{kind_number, kind_numbered};
+ghost use Rattle.kinds.specs.Inner.{FoundIs};
 ghost use Rattle.kinds.specs.Promises.{found_by≡};
+
+use fields::codes::FIRST_FIELD;
+use fields::header::check;
+use fields::walk::walk;
+use judge::Whole;
+pub use kind::Kind;
+use sheet::Refusal;
 
 // What the reader looks at of a sheet.
 #[derive(Clone, Copy)]
@@ -25,60 +31,34 @@ pub struct Numbers {
     pub resultid: u32,
 }
 
-// The place of the field in each slot of a kind, 0 where there is none.
+// The place of the field in each slot of a kind; where there is none 0, at which no field stands. (No Option: there would be one to unwrap wherever a kind must have
+// the field. Beside the slots and not in them, as the places alone are handed out.)
 pub type Places = [usize; kind::SLOTS];
 
-// The refusal's number; or 0, the kind, and the places of its fields.
+// The kind of a packet, and the places of its fields.
 #[derive(Clone, Copy)]
 pub struct Found {
-    pub refusal: u32,
-    pub kind: u32,
+    pub kind: Kind,
     pub places: Places,
 }
 
-// A refusal, beside zeros.
-fn nothing(refusal: u32) -> Found
-    ensures { result ≡ none_found refusal }
-{
-    Found {
-        refusal,
-        kind: 0,
-        places: [0, 0, 0],
-    }
-}
-
 // The fields of a packet of this kind whose walk is whole, or 5.
-fn sorted(numbers: Numbers, packet: &[u8], kind: u32) -> Found
-    requires { (0 < kind) × (kind < 8) × Walked packet.now }
-    ensures { FoundIs numbers packet.now (read_as numbers packet.now (kind_numbered numbers kind)) result }
+fn sorted(numbers: Numbers, whole: Whole, kind: Kind) -> Result<Found, Refusal>
+    ensures { FoundIs numbers whole.entry.packet.now (read_as numbers whole.entry.packet.now (kind_numbered numbers (kind_number kind))) result }
 {
-    let granted = judge::is_granted(packet, kind, numbers.resultid);
-    let judged = judge::judge(packet, kind::slots_of(numbers, kind, granted));
-    if judged.fault != 0 {
-        return nothing(5);
-    }
-    let places = judged.places;
-    Found {
-        refusal: 0,
-        kind,
-        places,
-    }
+    let granted = kind == Kind::ReceiveResponse && whole.is_granted(numbers.resultid);
+    let places = whole.judge(kind::slots_of(numbers, kind, granted))?;
+    Ok(Found { kind, places })
 }
 
 // What a packet is under these numbers, or 1, 2, 3, 4 or 5.
-pub fn found_by(numbers: Numbers, packet: &[u8]) -> Found
+pub fn found_by(numbers: Numbers, packet: &[u8]) -> Result<Found, Refusal>
     ensures { found_by≡ numbers packet.now result }
 {
-    let failed = fields::header::failed_check(packet);
-    if failed != 0 {
-        return nothing(failed);
+    check(packet)?;
+    let kind = kind::kind_of(numbers, packet).ok_or(Refusal::Kind)?;
+    if walk(packet, FIRST_FIELD) < packet.len() {
+        return Err(Refusal::Layout);
     }
-    let kind = kind::kind_of(numbers, packet);
-    if kind == 0 {
-        return nothing(3);
-    }
-    if fields::walk::walk(packet, fields::codes::FIRST_FIELD) < packet.len() {
-        return nothing(4);
-    }
-    sorted(numbers, packet, kind)
+    sorted(numbers, Whole { packet }, kind)
 }

@@ -19,12 +19,12 @@ none≡ r = r ≡ held_of []
 pub none-once : (x y : Held) → none≡ x → none≡ y → x ≡ y
 none-once x y p q = one_value x y p q
 
--- how many octets
-abbrev pub length_of≡ : Held → ℕ → Type 0
-length_of≡ held r = r ≡ length (held_in held)
+-- the octets
+abbrev pub as_slice≡ : Held → List ℕ → Type 0
+as_slice≡ held r = r ≡ held_in held
 
-pub length_of-once : (held : Held) (x y : ℕ) → length_of≡ held x → length_of≡ held y → x ≡ y
-length_of-once held x y p q = one_value x y p q
+pub as_slice-once : (held : Held) (x y : List ℕ) → as_slice≡ held x → as_slice≡ held y → x ≡ y
+as_slice-once held x y p q = one_value x y p q
 
 -- more behind it, as far as so many octets
 abbrev pub with≡ : Held → List ℕ → ℕ → Held → Type 0

@@ -2,18 +2,17 @@
 // not.
 #![tactic(auto)]
 
-mod ends;
 pub mod held;
 
-ghost use Rattle.std.specs.Prelude.{◌≡◌, [], ◌+◌, ◌*◌, ◌≤◌, length, drop};
+ghost use Rattle.std.specs.Prelude.{◌≡◌, [], ◌+◌, ◌*◌, ◌≤◌, length};
 ghost use Rattle.shown.specs.Promises.{Put};
 ghost use Rattle.lines.specs.Pieces.{left_from, lines_text};
 ghost use Rattle.lines.specs.Promises.{has_room≡, put_lines≡, put_last≡};
 
-use ends::line_end;
 use held::Held;
+use memchr::memchr;
 use packet::Numbers;
-use shown::{TIMES, least, line};
+use shown::{LF, TIMES, line};
 
 // One digit more than a packet has decides a line.
 const LINE: usize = 2 * hex_line::MOST + 1;
@@ -29,57 +28,51 @@ pub struct Kept {
 pub fn has_room(out: usize, at: usize, octets: usize) -> bool
     ensures { has_room≡ out at octets result }
 {
-    octets <= (out - least(at, out)) / TIMES
+    octets <= out.saturating_sub(at) / TIMES
 }
 
-// The place past what was printed, and where the line begins that has not ended.
+// The place past what was printed, and what stands behind the last LF.
 #[derive(Clone, Copy)]
-struct Ended {
+struct Ended<'a> {
     end: usize,
-    left: usize,
+    left: &'a [u8],
 }
 
-// Puts the lines for those that end in a piece from a place on, one behind the other.
-fn put_ended(out: &mut [u8], at: usize, numbers: Numbers, piece: &[u8], from: usize) -> Ended
-    requires { (from ≤ length piece.now) × (at + 10 * length (drop from piece.now) ≤ length out.old) }
-    ensures { Put (lines_text numbers [] (drop from piece.now)) out.old at result.end out.new
-        × (result.left ≤ length piece.now)
-        × (drop result.left piece.now ≡ left_from [] (drop from piece.now)) }
+// Puts the lines for those that end in a piece, one behind the other.
+fn put_ended<'a>(out: &mut [u8], at: usize, numbers: Numbers, piece: &'a [u8]) -> Ended<'a>
+    requires { at + 10 * length piece.now ≤ length out.old }
+    ensures { Put (lines_text numbers [] piece.now) out.old at result.end out.new × (result.left.now ≡ left_from [] piece.now) }
 {
     let mut end = at;
-    let mut left = from;
-    let mut lf = line_end(piece, left);
-    while lf < piece.len() {
-        end = line::put(out, end, numbers, &piece[left..lf]);
-        left = lf + 1;
-        lf = line_end(piece, left);
+    let mut left = piece;
+    // A line's end is looked for behind the last one.
+    while let Some(lf) = memchr(LF, left) {
+        end = line::put(out, end, numbers, &left[..lf]);
+        left = &left[lf + 1..];
     }
     Ended { end, left }
 }
 
 // Puts the lines for those that end in a piece at a place, the first of them begun with what is held, and keeps what stands behind the last LF.
-// Where not ten octets for each that is held or comes stand behind the place, nothing is put, and what is held stays.
+// Where not ten octets for each that is held or comes stand behind the place, nothing is put, and what is held stays. (A buffer and a place, as `put_lines≡` speaks of
+// them.)
 pub fn put_lines(out: &mut [u8], at: usize, numbers: Numbers, held: Held, piece: &[u8]) -> Kept
     ensures { put_lines≡ numbers held piece.now out.old at result out.new }
 {
-    if !has_room(out.len(), at, held::length_of(held) + piece.len()) {
+    if !has_room(out.len(), at, held.as_slice().len() + piece.len()) {
         return Kept { held, end: at };
     }
-    let lf = line_end(piece, 0);
-    let first = held::with(held, &piece[..lf], LINE);
-    if lf == piece.len() {
+    let Some(lf) = memchr(LF, piece) else {
         return Kept {
-            held: first,
+            held: held::with(held, piece, LINE),
             end: at,
         };
-    }
-    let octets = first.octets;
-    let len = first.len;
-    let end = line::put(out, at, numbers, &octets[..len]);
-    let ended = put_ended(out, end, numbers, piece, lf + 1);
-    let left = ended.left;
+    };
+    let first = held::with(held, &piece[..lf], LINE);
+    let end = line::put(out, at, numbers, first.as_slice());
+    let ended = put_ended(out, end, numbers, &piece[lf + 1..]);
     Kept {
-        held: held::with(held::none(), &piece[left..], LINE),
+        held: held::with(held::none(), ended.left, LINE),
         end: ended.end,
     }
 }
@@ -90,10 +83,9 @@ pub fn put_lines(out: &mut [u8], at: usize, numbers: Numbers, held: Held, piece:
 pub fn put_last(out: &mut [u8], at: usize, numbers: Numbers, held: Held) -> usize
     ensures { put_last≡ numbers held out.old at result out.new }
 {
-    let octets = held.octets;
-    let len = held::length_of(held);
-    if len == 0 {
+    let octets = held.as_slice();
+    if octets.is_empty() {
         return at;
     }
-    line::put(out, at, numbers, &octets[..len])
+    line::put(out, at, numbers, octets)
 }

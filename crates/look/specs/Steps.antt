@@ -1,18 +1,20 @@
 -- What `mcvlook` prints piece by piece: what is kept between two pieces of the input, and what each piece prints. That any pieces print what
 -- `look_of` says of the whole is claimed in Claims.antt, so that of this page a reader need believe no more than the claims name: `room_asked`,
 -- `is_refused` and `state_of`. Assumes nothing.
-use Rattle.std.specs.Prelude.{ℕ, ◌+◌, ◌*◌, Bool, true, false, List, [], ◌++◌, length, drop, leb, ltb, eqb}
+use Rattle.std.specs.Prelude.{ℕ, ◌+◌, ◌*◌, Bool, true, false, List, [], ◌++◌, length, drop, leb, ltb, Result, Ok, Err}
 use Rattle.octets.specs.Choice.{pick}
 use Rattle.octets.specs.Buffer.{over}
-use Rattle.sheet_text.specs.Reading.{no_refusal, read_of}
+use Rattle.sheet.specs.declared.Refusal.{Refusal}
+use Rattle.sheet.specs.declared.Refusal.TheVariants.{NoRoom}
+use Rattle.sheet.specs.Refusal.{refusal_line}
+use Rattle.sheet_text.specs.declared.Reading.{Reading}
+use Rattle.sheet_text.specs.Reading.{read_of}
 use Rattle.kinds.specs.declared.Numbers.{Numbers}
 use Rattle.kinds.specs.Kind.{numbers_of}
-use Rattle.shown.specs.Printing.{no_room}
 use Rattle.shown.specs.Line.{sheet_line}
 use Rattle.lines.specs.Pieces.{left_from, lines_text, last_line, most_held, kept_of, held_in, held_of}
-use Rattle.look.specs.declared.Phase.{Phase}
-use Rattle.look.specs.declared.Phase.TheVariants.{Sheet, Lines, Refused}
 use Rattle.look.specs.declared.Look.{Look}
+use Rattle.look.specs.declared.Look.TheVariants.{Sheet, Lines, Refused}
 use Rattle.look.specs.declared.Stepped.{Stepped}
 
 -- ---- what is kept
@@ -36,12 +38,12 @@ fed n line piece =
     record { to = in_lines n (kept_of (left_from line piece)); text = lines_text n line piece }
 
 -- the sheet is read from the text so far, and what stands behind it is lines
+unfoldable pub decided_by : List ℕ → Result Reading Refusal → Went
+decided_by t (Ok r) = fed (numbers_of r.sheet) [] (drop r.used t)
+decided_by t (Err refusal) = record { to = refused_sheet; text = sheet_line (refusal_line refusal) }
+
 unfoldable pub decided : List ℕ → Went
-decided t =
-    let r = read_of t in
-    pick (eqb r.refusal.number 0)
-    (fed (numbers_of r.sheet) [] (drop r.used t))
-    (record { to = refused_sheet; text = sheet_line r.refusal.at })
+decided t = decided_by t (read_of t)
 
 unfoldable pub step_of : State → List ℕ → Went
 step_of (in_sheet t) piece =
@@ -67,33 +69,17 @@ is_refused (in_sheet t) = false
 is_refused (in_lines n line) = false
 is_refused refused_sheet = true
 
--- ---- the struct that keeps it
+-- ---- the value that keeps it
 
 unfoldable pub state_of : Look → State
-state_of look = at look.phase
-  where
-    at : Phase → State
-    at Sheet = in_sheet (held_in look.held)
-    at Lines = in_lines look.numbers (held_in look.held)
-    at Refused = refused_sheet
-
-abbrev pub no_numbers : Numbers
-no_numbers =
-    record {
-      request = 0;
-      response = 0;
-      endrequest = 0;
-      endresponse = 0;
-      txend = 0;
-      txendresponse = 0;
-      ack = 0;
-      resultid = 0;
-    }
+state_of (Sheet held) = in_sheet (held_in held)
+state_of (Lines n held) = in_lines n (held_in held)
+state_of Refused = refused_sheet
 
 unfoldable pub look_as : State → Look
-look_as (in_sheet t) = record { phase = Sheet; numbers = no_numbers; held = held_of t }
-look_as (in_lines n line) = record { phase = Lines; numbers = n; held = held_of line }
-look_as refused_sheet = record { phase = Refused; numbers = no_numbers; held = held_of [] }
+look_as (in_sheet t) = Sheet (held_of t)
+look_as (in_lines n line) = Lines n (held_of line)
+look_as refused_sheet = Refused
 
 -- ---- room
 
@@ -105,12 +91,10 @@ unfoldable pub has_room : List ℕ → List ℕ → Bool
 has_room piece out = leb (room_asked (length piece)) (length out)
 
 -- a piece is taken whole, or, where there is no room, not at all
-unfoldable pub stepped_of : Look → List ℕ → List ℕ → Stepped
+unfoldable pub stepped_of : Look → List ℕ → List ℕ → Result Stepped Refusal
 stepped_of look piece out =
     let w = step_of (state_of look) piece in
-    pick (has_room piece out)
-    (record { look = look_as w.to; written = length w.text; refusal = no_refusal })
-    (record { look = look; written = 0; refusal = no_room })
+    pick (has_room piece out) (Ok (record { look = look_as w.to; written = length w.text })) (Err NoRoom)
 
 unfoldable pub after_step : Look → List ℕ → List ℕ → List ℕ
 after_step look piece out = pick (has_room piece out) (over (step_of (state_of look) piece).text out) out

@@ -5,6 +5,8 @@ use Prim.Native.Nat.{ℕ, zero, suc, ◌+◌, ◌*◌, ◌/◌, ◌%◌, ◌^◌
 use native.Mathlib.Nat.{add-zero, add-suc, add_assoc, add-mul, mul_assoc, mul-one, pow-zero, pow-suc, pow-succ', div-one, div-div-eq-div-mul, mod-one, one-le-pow, mod-lt, mod-eq_of_lt}
 use native.Mathlib.Omega.{arith}
 use mathlib.Core.List.{List, [], ◌∷◌, ◌++◌, append-nil, append_assoc}
+use mir.Syntax.{w32}
+use Rattle.std.specs.Int.{from_be_bytes, to_be_bytes}
 use lib.ListN.{length, get_or, take, drop, length-append, length-drop, take-append-drop, get_or-eq_default, get_or-append}
 use lib.Seq.{take-suc, drop-drop, get_or-drop, get_or-append-add, get_or_at}
 use lib.Arith.{digits_lt, digits_div, digits_mod, mod-mul}
@@ -22,15 +24,21 @@ unfolding big_at
 big_at-add v zero s at = simp (add-zero, pow-zero, mul-one)
 big_at-add v (suc w) s at = simp (add-suc, big_at-add v w s at, pow-suc, add-mul, mul_assoc, add_assoc)
 
--- one octet is its own number
-pub big_at-one : (s : List ℕ) (at : ℕ) → big_at 1 s at ≡ get_or s at 0
-unfolding big_at
-big_at-one s at = rw add-zero (omega arith)
-
 -- two octets of a slice, taken by themselves
 pub big_at-two : (s : List ℕ) (at : ℕ) → big_at 2 (get_or s at 0 ∷ get_or s (at + 1) 0 ∷ []) 0 ≡ big_at 2 s at
 unfolding big_at
 big_at-two s at = rw add-zero refl
+
+-- two octets of what is left from a place on
+pub big_at-pair : (s : List ℕ) (at : ℕ) → big_at 2 (get_or (drop at s) 0 0 ∷ get_or (drop at s) 1 0 ∷ []) 0 ≡ big_at 2 s at
+unfolding big_at
+big_at-pair s at = simp get_or-drop refl
+
+-- four octets of what is left from a place on, as std reads them
+pub big_at-four : (s : List ℕ) (at : ℕ)
+    → from_be_bytes w32 (get_or (drop at s) 0 0 ∷ get_or (drop at s) 1 0 ∷ get_or (drop at s) 2 0 ∷ get_or (drop at s) 3 0 ∷ []) ≡ big_at 4 s at
+unfolding big_at
+big_at-four s at = simp get_or-drop (omega arith)
 
 -- nothing stands at or past the end
 pub big_at-end : (w : ℕ) (s : List ℕ) (at : ℕ) → length s ≤ at → big_at w s at ≡ 0
@@ -65,15 +73,17 @@ unfolding big_of
 length-big_of zero n = refl
 length-big_of (suc w) n = simp (length-append, length-big_of w (n / 256)) (omega arith)
 
--- one octet is the lowest
-pub big_of-one : (n : ℕ) → big_of 1 n ≡ n % 256 ∷ []
-unfolding big_of
-big_of-one n = refl
-
 -- two octets
 pub big_of-two : (n : ℕ) → big_of 2 n ≡ n / 256 % 256 ∷ n % 256 ∷ []
 unfolding big_of
 big_of-two n = refl
+
+-- four octets as std makes them
+pub big_of-four : (n : ℕ) → to_be_bytes w32 n ≡ big_of 4 n
+unfolding big_of
+big_of-four n = simp div-div-eq-div-mul refl
+
+pub ruleset four_octets = (big_of-four)
 
 -- v + w octets: the high v, then the low w
 pub big_of-add : (v w n : ℕ) → big_of (v + w) n ≡ big_of v (n / 256 ^ w) ++ big_of w n

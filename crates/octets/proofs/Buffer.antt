@@ -2,7 +2,7 @@
 -- Assumes nothing.
 use mathlib.Core.Path.{◌≡◌, refl, sym, ap, ◌∙◌}
 use mathlib.Core.Logic.{⊎_elim}
-use Prim.Native.Nat.{ℕ, zero, suc, ◌+◌, ◌-◌, ◌/◌, ◌^◌, ◌≤◌, ◌<◌}
+use Prim.Native.Nat.{ℕ, zero, suc, ◌+◌, ◌-◌, ◌≤◌, ◌<◌}
 use native.Mathlib.Nat.{zero-add, add-zero, add_assoc, sub-zero, add-sub_of_le, sub-eq-zero_of_le}
 use native.Mathlib.Numerals.{add-one}
 use native.Mathlib.Omega.{arith}
@@ -11,12 +11,10 @@ use lib.ListN.{length, get_or, set, take, drop, replicate, take-append-drop, len
 use lib.Seq.{take_all, take-take, take-append_seam, take-suc, drop-append_seam, set-append_seam, drop-append-add, drop-append-le, drop-drop, drop-cons, set_split, set_out, length-take-le, take_at, drop_at, get_or-drop, get_or-take, ext_get_or}
 use lib.Dec.{T, eqb, eqb→eq}
 use borrow.Author.Tests.{le-leb, lt-leb}
+use Rattle.std.proofs.lemmas.List.{drop-replicate}
 use Rattle.octets.specs.Choice.{same}
 use Rattle.octets.specs.Buffer.{over, put_at, zeros_from, padded}
-use Rattle.octets.specs.Big.{big_of}
 use Rattle.octets.proofs.Choice.{le-or-lt, test-eq, same-eq, eq-same, every-get_or, get_or-every, every-replicate}
-use Rattle.octets.proofs.Big.{length-big_of, big_of-add}
-use Rattle.octets.proofs.Lists.{drop-replicate}
 
 -- ---- a buffer overwritten from its front
 
@@ -170,12 +168,6 @@ put_both out at xs ys mid next now end m n p q room =
     (p ∙ rw m (put_at-next out at xs ys next n room), rw length-append (omega arith))
 
 -- ---- a number put at a place
-
--- v + w octets: the high v, then the low w just past them
-pub put_at-big_of-add : (v w : ℕ) (s : List ℕ) (at n : ℕ) → at + v + w ≤ length s
-    → put_at (put_at s at (big_of v (n / 256 ^ w))) (at + v) (big_of w n) ≡ put_at s at (big_of (v + w) n)
-put_at-big_of-add v w s at n h =
-    rw (big_of-add v w n) (rw length-big_of at (put_at-then s at (big_of v (n / 256 ^ w)) (big_of w n) (simp length-big_of h)))
 
 -- ---- zeros to the end
 

@@ -8,10 +8,8 @@ use mathlib.Core.Option
 use mathlib.Core.Option.{none, some, some-ne-none, none-ne-some, some-injective, map-eq-none_iff, map-eq-some_iff}
 use Prim.Native.Nat.{ℕ, zero, suc, ◌+◌, ◌≤◌, ◌<◌, zero-le, suc-le-suc}
 use native.Mathlib.Nat.{le_of_suc-le-suc, not-suc-le-zero, zero-lt-suc, eq-or-lt_of_le}
-use native.Mathlib.Numerals.{add-one}
 use native.Mathlib.Omega.{arith}
-use lib.ListN.{length, get_or, drop, replicate, drop_of_length-le}
-use lib.Seq.{drop-cons}
+use lib.ListN.{length, get_or, drop, replicate}
 use lib.Dec.{T, leb, eqb, leb→le, eqb→eq, eqb_refl}
 use borrow.Author.Tests.{leb-false}
 use Rattle.octets.specs.Choice.{pick, same, begins, every, some_of, front, first_place}
@@ -144,14 +142,6 @@ same-eq [] (y ∷ ys) t = absurd t
 same-eq (x ∷ xs) [] t = absurd t
 same-eq (x ∷ xs) (y ∷ ys) t =
     rw (eqb→eq x y (T-and-left (eqb x y) (same xs ys) t), same-eq xs ys (T-and-right (eqb x y) (same xs ys) t))
-
--- lists of two lengths are not the same
-pub same_length : (xs ys : List ℕ) → (length xs ≡ length ys → ⊥) → same xs ys ≡ false
-same_length xs ys h = T_false (same xs ys) (λ t. h (ap length (same-eq xs ys t)))
-
--- no place is left
-pub same_end : (xs ys : List ℕ) (i : ℕ) → length xs ≤ i → length ys ≤ i → same (drop i xs) (drop i ys) ≡ true
-same_end xs ys i h l = rw (drop_of_length-le xs h, drop_of_length-le ys l)
 
 -- ---- begins: a list begins with another
 
@@ -295,21 +285,6 @@ module _ (p : ℕ → Bool) where
   front-append [] ys c t e = front-cons-false c ys e
   front-append (x ∷ xs) ys c t e =
       rw (T_true (p x) (T-and-left (p x) (every p xs) t), front-append xs ys c (T-and-right (p x) (every p xs) t) e)
-
-  -- ---- the front of what is left from a place on: how a loop that goes up counts it
-
-  -- an element that passes, and the front after it
-  pub front-drop-true : (s : List ℕ) (at : ℕ) → at < length s → p (get_or s at 0) ≡ true
-      → front p (drop at s) ≡ get_or s at 0 ∷ front p (drop (at + 1) s)
-  front-drop-true s at h e = rw (add-one, drop-cons s at 0 h, e)
-
-  -- an element that fails ends the front
-  pub front-drop-false : (s : List ℕ) (at : ℕ) → at < length s → p (get_or s at 0) ≡ false → front p (drop at s) ≡ []
-  front-drop-false s at h e = rw (drop-cons s at 0 h, e)
-
-  -- the end of the list ends it
-  pub front-drop-end : (s : List ℕ) (at : ℕ) → length s ≤ at → front p (drop at s) ≡ []
-  front-drop-end s at h = rw (drop_of_length-le s h)
 
 -- ---- some_of: a test holds of some element
 

@@ -1,55 +1,35 @@
 -- Laws of octets in hex: what a digit is and its value, and the octets that digits make, pair by pair. Assumes nothing.
 use mathlib.Core.Path.{◌≡◌, refl}
-use mathlib.Core.Logic.{⊎_elim}
-use mathlib.Core.Bool.{true, false, ◌&&◌}
+use mathlib.Core.Bool.{◌&&◌}
 use mathlib.Core.List.{List, [], ◌∷◌, ◌++◌}
 use Prim.Native.Nat.{ℕ, zero, suc, ◌+◌, ◌-◌, ◌*◌, ◌/◌, ◌%◌, ◌≤◌, ◌<◌}
 use native.Mathlib.Omega.{arith}
 use lib.ListN.{length, get_or}
-use lib.Dec.{T, leb, eqb, leb→le, ltb→lt, eqb→eq}
-use borrow.Author.Tests.{le-leb, lt-leb, lt-ltb}
+use lib.Dec.{T, leb, ltb, eqb, leb→le, ltb→lt, eqb→eq}
+use borrow.Author.Tests.{lt-ltb}
+use Rattle.std.specs.Char.{is_ascii_hexdigit}
 use Rattle.octets.specs.Choice.{every}
 use Rattle.octets.specs.Hex.{hex_value, hex_digit, is_hex, hex_octets}
 use Rattle.octets.specs.Text.{digit}
-use Rattle.octets.proofs.Choice.{T-and-left, T-and-right, le-or-lt, pick-cases}
+use Rattle.octets.proofs.Choice.{T_true, T-and-left, T-and-right, pick-cases}
 
 -- ---- a digit
-
--- a number from low to high
-between : (low c high : ℕ) → low ≤ c → c ≤ high → (leb low c && leb c high) ≡ true
-between low c high h l = rw (le-leb low c h, le-leb c high l)
-
--- a number below low, or above high
-outside : (low c high : ℕ) → (low ≤ c → high < c) → (leb low c && leb c high) ≡ false
-outside low c high h =
-    ⊎_elim (λ l. rw (le-leb low c l, lt-leb c high (h l))) (λ l. rw (lt-leb low c l)) (le-or-lt low c)
-
--- 0 to 9 is one
-pub hex_digit-digit : (c : ℕ) → 48 ≤ c → c ≤ 57 → hex_digit c ≡ true
-unfolding hex_value hex_digit
-hex_digit-digit c h l = rw (between 48 c 57 h l) (lt-ltb (c - 48) 16 (omega arith))
-
--- and A to F
-pub hex_digit-upper : (c : ℕ) → 65 ≤ c → c ≤ 70 → hex_digit c ≡ true
-unfolding hex_value hex_digit
-hex_digit-upper c h l = rw (outside 48 c 57 (λ _. omega arith), between 65 c 70 h l) (lt-ltb (c - 55) 16 (omega arith))
-
--- and a to f
-pub hex_digit-lower : (c : ℕ) → 97 ≤ c → c ≤ 102 → hex_digit c ≡ true
-unfolding hex_value hex_digit
-hex_digit-lower c h l =
-    rw (outside 48 c 57 (λ _. omega arith), outside 65 c 70 (λ _. omega arith), between 97 c 102 h l)
-    (lt-ltb (c - 87) 16 (omega arith))
-
--- and nothing else
-pub hex_digit-none : (c : ℕ) → (48 ≤ c → 57 < c) → (65 ≤ c → 70 < c) → (97 ≤ c → 102 < c) → hex_digit c ≡ false
-unfolding hex_value hex_digit
-hex_digit-none c d u l = rw (outside 48 c 57 d, outside 65 c 70 u, outside 97 c 102 l)
 
 -- a number that passes the test is from low to high
 passes : (low c high : ℕ) → T (leb low c && leb c high) → (low ≤ c) × (c ≤ high)
 passes low c high t =
     (leb→le low c (T-and-left (leb low c) (leb c high) t), leb→le c high (T-and-right (leb low c) (leb c high) t))
+
+-- a digit is what std takes for one
+pub hex_digit-ascii : (c : ℕ) → is_ascii_hexdigit c ≡ hex_digit c
+unfolding hex_value hex_digit
+hex_digit-ascii c =
+    pick-cases Ascii (digit c) (c - 48) _ (λ d. rw (T_true (digit c) d, lt-ltb (c - 48) 16 (omega (arith, passes 48 c 57 d))))
+    (λ d. pick-cases Ascii (leb 65 c && leb c 70) (c - 55) _ (λ u. rw (d, T_true (leb 65 c && leb c 70) u, lt-ltb (c - 55) 16 (omega (arith, passes 65 c 70 u))))
+    (λ u. pick-cases Ascii (leb 97 c && leb c 102) (c - 87) 256 (λ l. rw (d, u, T_true (leb 97 c && leb c 102) l, lt-ltb (c - 87) 16 (omega (arith, passes 97 c 102 l)))) (λ l. rw (d, u, l))))
+  where
+    Ascii : ℕ → Type 0
+    Ascii v = is_ascii_hexdigit c ≡ ltb v 16
 
 -- a digit's value is its low four bits, and nine more for a letter
 pub hex_value-bits : (c : ℕ) → T (hex_digit c) → c % 16 + c / 64 * 9 ≡ hex_value c

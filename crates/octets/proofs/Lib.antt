@@ -8,3 +8,4 @@ pub mod Text
 pub mod Hex
 pub mod First
 pub mod Parts
+pub mod Ranges

@@ -1,12 +1,13 @@
--- Laws on lists that the library lacks: elements one by one, and what `map`, `take`, `drop` and `++` do to one another. Assumes nothing.
-use mathlib.Core.Path.{◌≡◌, refl, sym, ap, ◌∙◌}
-use mathlib.Core.List.{List, [], ◌∷◌, ◌++◌, map}
+-- Laws on lists that the library lacks: elements one by one, and what `take` and `drop` do to one another. Assumes nothing.
+use mathlib.Core.Path.{◌≡◌, refl, ap, ◌∙◌}
+use mathlib.Core.List.{List, [], ◌∷◌, ◌++◌}
 use mathlib.Core.Option.{some}
-use Prim.Native.Nat.{ℕ, zero, suc, ◌+◌, ◌-◌, ◌≤◌, ◌<◌}
-use native.Mathlib.Nat.{not-suc-le-zero, le_of_suc-le-suc, sub-zero, zero-sub, suc-sub-suc}
+use Prim.Native.Nat.{ℕ, zero, suc, ◌+◌, ◌-◌, ◌≤◌}
+use native.Mathlib.Nat.{sub-zero, zero-sub, suc-sub-suc}
 use native.Mathlib.Omega.{arith}
-use lib.ListN.{length, get_or, get_elem?, take, drop, replicate, length-drop}
+use lib.ListN.{length, get_or, get_elem?, take, drop, length-drop}
 use lib.Seq.{drop-cons, take_all, take-nil, slice}
+pub use Rattle.std.proofs.lemmas.List.{get_or_default}
 
 -- ---- the elements of a list, one by one
 
@@ -26,31 +27,7 @@ listed-drop n at l e =
     let d : length (drop at l) ≡ length l - at = length-drop at l in
     listed-take n at l (omega arith) ∙ take_all n (drop at l) (omega arith)
 
--- below the end the default does not matter
-pub get_or_default {ℓ} : {A : Type ℓ} (l : List A) (i : ℕ) (d e : A) → i < length l → get_or l i d ≡ get_or l i e
-get_or_default [] i d e h = absurd (not-suc-le-zero h)
-get_or_default (x ∷ l) zero d e h = refl
-get_or_default (x ∷ l) (suc i) d e h = get_or_default l i d e (le_of_suc-le-suc h)
-
--- ---- map, take, drop, replicate, slice
-
--- dropping and mapping, in either order
-pub map-drop : {A B : Type 0} (f : A → B) (n : ℕ) (xs : List A) → drop n (map f xs) ≡ map f (drop n xs)
-map-drop f zero xs = refl
-map-drop f (suc n) [] = refl
-map-drop f (suc n) (x ∷ xs) = map-drop f n xs
-
--- taking and mapping, in either order
-pub map-take : {A B : Type 0} (f : A → B) (n : ℕ) (xs : List A) → map f (take n xs) ≡ take n (map f xs)
-map-take f zero xs = refl
-map-take f (suc n) [] = refl
-map-take f (suc n) (x ∷ xs) = ap (λ (ys : List _). f x ∷ ys) (map-take f n xs)
-
--- what is left of a repeat
-pub drop-replicate : {A : Type 0} (n m : ℕ) (a : A) → drop n (replicate m a) ≡ replicate (m - n) a
-drop-replicate zero m a = ap (λ (k : ℕ). replicate k a) (sym (sub-zero m))
-drop-replicate (suc n) zero a = ap (λ (k : ℕ). replicate k a) (sym (zero-sub (suc n)))
-drop-replicate (suc n) (suc m) a = drop-replicate n m a ∙ ap (λ (k : ℕ). replicate k a) (sym (suc-sub-suc m n))
+-- ---- take, drop, slice
 
 -- so many of what is left from a place on are those up to an end
 pub take-drop-slice {ℓ} : {A : Type ℓ} (a e : ℕ) (l : List A) → take (e - a) (drop a l) ≡ slice a e l

@@ -2,45 +2,17 @@
 -- Assumes nothing.
 use mathlib.Core.Path.{◌≡◌, refl, sym, ap, ◌∙◌}
 use mathlib.Core.Logic.{⊎_elim}
-use mathlib.Core.Bool.{Bool}
 use mathlib.Core.List.{List, [], ◌∷◌, ◌++◌, flatten, append_assoc, append-nil}
 use Prim.Native.Nat.{ℕ, zero, suc, ◌+◌, ◌-◌, ◌≤◌, ◌<◌, min}
-use native.Mathlib.Nat.{le_of_suc-le-suc, not-suc-le-zero, min-eq_right}
+use native.Mathlib.Nat.{le_of_suc-le-suc, not-suc-le-zero}
 use native.Mathlib.Numerals.{add-one}
 use native.Mathlib.Omega.{arith}
-use lib.ListN.{length, get_or, take, drop, length-drop, drop_of_length-le}
-use lib.Seq.{take_all, take-length, take-suc, take-append-le, take-append-add, drop-length, take_at}
-use Rattle.octets.specs.Choice.{front}
-use Rattle.octets.proofs.Choice.{le-or-lt, front-split}
+use lib.ListN.{length, get_or, take}
+use lib.Seq.{take_all, take-suc, take-append-le, take-append-add}
+use Rattle.std.proofs.lemmas.List.{take_min}
+use Rattle.octets.proofs.Choice.{le-or-lt}
 
 -- ---- no more than there is
-
--- taking more is taking all
-pub take_min : {A : Type 0} (n : ℕ) (l : List A) → take (min n (length l)) l ≡ take n l
-take_min n l =
-    ⊎_elim
-    (λ (h : length l ≤ n). rw (min-eq_right h, take_all n l h) (take-length l))
-    (λ (h : n < length l). let e : min n (length l) ≡ n = omega arith in rw e)
-    (le-or-lt (length l) n)
-
--- dropping more is dropping all
-pub drop_min : {A : Type 0} (n : ℕ) (l : List A) → drop (min n (length l)) l ≡ drop n l
-drop_min n l =
-    ⊎_elim
-    (λ (h : length l ≤ n). rw (min-eq_right h, drop_of_length-le l h) (drop-length l))
-    (λ (h : n < length l). let e : min n (length l) ≡ n = omega arith in rw e)
-    (le-or-lt (length l) n)
-
--- both: the part that there is
-pub part-min : {A : Type 0} (l : List A) (at len from n : ℕ) → from ≡ min at (length l) → n ≡ min len (length l - from)
-    → take (from + n - from) (drop from l) ≡ take len (drop at l)
-part-min l at len from n f e =
-    let m : from + n - from ≡ n = omega arith in
-    rw (m, e, ← length-drop from l, take_min, f, drop_min)
-
--- the front is as many of the list as it has
-pub take-front : (p : ℕ → Bool) (s : List ℕ) → take (length (front p s)) s ≡ front p s
-take-front p s = ap (take (length (front p s))) (front-split p s) ∙ take_at (front p s) (drop (length (front p s)) s) (length (front p s)) refl
 
 -- ---- the first of a list
 

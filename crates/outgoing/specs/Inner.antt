@@ -1,19 +1,18 @@
 -- What the inner functions say. The public promises rest on these, and nobody need believe them: each is only a step of a proof.
 -- Assumes nothing.
-use Rattle.std.specs.Prelude.{◌≡◌, ℕ, ◌<◌, List, [], ◌∷◌, false, length, get_or, eqb}
+use Rattle.std.specs.Prelude.{◌≡◌, ℕ, ◌<◌, List, [], ◌∷◌, false, None, Result, length, get_or, eqb}
 use Rattle.std.proofs.Math.Option.{Option, none, some}
 use Rattle.octets.specs.Choice.{pick}
+use Rattle.sheet.specs.declared.Refusal.{Refusal}
 use Rattle.sheet.specs.declared.Sheet.{Sheet}
 use Rattle.sheet.specs.Value.{name_of}
 use Rattle.packet.specs.declared.Head.{Head}
-use Rattle.packet.specs.declared.Indicator.TheVariants.{Absent}
 use Rattle.packet.specs.declared.Verdict.{Verdict}
 use Rattle.packet.specs.declared.Verdict.TheVariants.{Granted, Rejected}
 use Rattle.packet.specs.declared.Message.{Message}
 use Rattle.packet.specs.declared.Message.TheVariants.{ReceiveResponse, EndResponse, TransmissionEnd, Ack}
 use Rattle.packet.specs.Message.{message_said}
 use Rattle.packet.specs.Row.{no_number, message_in}
-use Rattle.writing.specs.declared.Writing.{Writing}
 use Rattle.writing.specs.Writing.{Answered}
 use Rattle.streams.specs.declared.Answer.{Answer}
 use Rattle.streams.specs.declared.Answer.TheVariants.{GrantedFirst, Granted as GrantedMore, GrantedAgain, Rejected as AnswerRejected, Ended, EndedLast, Opened, EndRequested, Freed, FreedWithAck, ReleasedIdle, ReleasedWatched, ReleasedEnding, Discarded}
@@ -25,13 +24,13 @@ abbrev pub server_head : ℕ → Head
 server_head server = record { ssrc = server; ack = false }
 
 abbrev pub response_out : ℕ → Verdict → Option Message
-response_out server v = some (ReceiveResponse (server_head server) v Absent)
+response_out server v = some (ReceiveResponse (server_head server) v None)
 
 abbrev pub end_response_out : ℕ → ℕ → Option Message
 end_response_out server len = some (EndResponse (server_head server) (record { at = 0; len = len }))
 
 abbrev pub end_request_out : ℕ → ℕ → Option Message
-end_request_out server cause = some (TransmissionEnd (server_head server) cause Absent)
+end_request_out server cause = some (TransmissionEnd (server_head server) cause None)
 
 abbrev pub ack_out : ℕ → Option Message
 ack_out server = some (Ack (server_head server) 2 1)
@@ -66,5 +65,5 @@ Outgoes none row = get_or row 0 0 ≡ 0
 Outgoes (some m) row = (0 < get_or row 0 0) × (message_in row ≡ message_said m)
 
 -- what the answer of a row sends on the stream of the transmitter whose User ID the other row holds
-abbrev pub SentFrom : Sheet → List ℕ → List ℕ → List ℕ → Writing → List ℕ → Type 0
+abbrev pub SentFrom : Sheet → List ℕ → List ℕ → List ℕ → Result ℕ Refusal → List ℕ → Type 0
 SentFrom s name row out r now = (a : Answer) → answer_in row ≡ some a → Answered (octets_out (parcel_of s (name_of name) (length out) (message_of a))) out r now

@@ -1,19 +1,17 @@
 -- Answers that say the same are the same (document 01: "a definition sets out this paper's number and values for each of its
 -- cases"): from what is said the answer is got back. Assumes nothing.
-use Rattle.std.specs.Prelude.{◌≡◌, refl, ℕ, [], ◌∷◌, get_or}
+use Rattle.std.specs.Prelude.{◌≡◌, refl, ℕ, [], ◌∷◌, get_or, Option, Some, None, Result, Ok, Err}
 use Rattle.std.proofs.Common.{sym, ap, ◌∙◌}
+use Rattle.sheet.specs.declared.Refusal.{Refusal}
+use Rattle.sheet.specs.Refusal.{refusal_by, refusal_back}
 use Rattle.packet.specs.declared.Name.{Name}
 use Rattle.packet.specs.declared.Head.{Head}
-use Rattle.packet.specs.declared.Indicator.{Indicator}
-use Rattle.packet.specs.declared.Indicator.TheVariants.{Absent, Given}
 use Rattle.packet.specs.declared.Verdict.{Verdict}
 use Rattle.packet.specs.declared.Verdict.TheVariants.{Granted, Rejected}
 use Rattle.packet.specs.declared.Message.{Message}
 use Rattle.packet.specs.declared.Message.TheVariants.{ReceiveRequest, ReceiveResponse, EndRequest, EndResponse, TransmissionEnd, TransmissionEndResponse, Ack}
-use Rattle.packet.specs.declared.Reading.{Reading}
-use Rattle.packet.specs.declared.Reading.TheVariants.{Read, Refused}
 use Rattle.packet.specs.declared.Asked.{Asked}
-use Rattle.packet.specs.declared.Asked.TheVariants.{Request, End, EndResponse, Nothing, Refused as AskedRefused}
+use Rattle.packet.specs.declared.Asked.TheVariants.{Request, End, EndResponse}
 use Rattle.kinds.specs.Judge.{Held, absent, given, named}
 use Rattle.kinds.specs.Reading.{Outcome, reads, refused}
 use Rattle.packet.specs.Message.{message_said, read_said}
@@ -26,10 +24,10 @@ name_back absent = record { at = 0; len = 0 }
 name_back (given n) = record { at = 0; len = 0 }
 name_back (named at len) = record { at = at; len = len }
 
-abbrev indicator_back : Held → Indicator
-indicator_back absent = Absent
-indicator_back (given n) = Given n
-indicator_back (named at len) = Absent
+abbrev indicator_back : Held → Option ℕ
+indicator_back absent = None
+indicator_back (given n) = Some n
+indicator_back (named at len) = None
 
 abbrev verdict_back : Held → Verdict
 verdict_back absent = Granted
@@ -59,43 +57,43 @@ message_back kind h a b c =
     kind
     (TransmissionEndResponse h)
 
-abbrev read_back : Outcome → Reading
+abbrev read_back : Outcome → Result Message Refusal
 read_back (reads kind ssrc ack values) =
-    Read (message_back kind (record { ssrc = ssrc; ack = ack }) (get_or values 0 absent) (get_or values 1 absent) (get_or values 2 absent))
-read_back (refused number at) = Refused (record { number = number; at = at })
+    Ok (message_back kind (record { ssrc = ssrc; ack = ack }) (get_or values 0 absent) (get_or values 1 absent) (get_or values 2 absent))
+read_back (refused number at) = Err (refusal_by number at)
 
-message_back_lem : (m : Message) → read_back (message_said m) ≡ Read m
-message_back_lem (ReceiveRequest h user source Absent) = refl
-message_back_lem (ReceiveRequest h user source (Given n)) = refl
-message_back_lem (ReceiveResponse h Granted Absent) = refl
-message_back_lem (ReceiveResponse h Granted (Given n)) = refl
-message_back_lem (ReceiveResponse h (Rejected cause) Absent) = refl
-message_back_lem (ReceiveResponse h (Rejected cause) (Given n)) = refl
-message_back_lem (EndRequest h transmitter Absent) = refl
-message_back_lem (EndRequest h transmitter (Given n)) = refl
+message_back_lem : (m : Message) → read_back (message_said m) ≡ Ok m
+message_back_lem (ReceiveRequest h user source None) = refl
+message_back_lem (ReceiveRequest h user source (Some n)) = refl
+message_back_lem (ReceiveResponse h Granted None) = refl
+message_back_lem (ReceiveResponse h Granted (Some n)) = refl
+message_back_lem (ReceiveResponse h (Rejected cause) None) = refl
+message_back_lem (ReceiveResponse h (Rejected cause) (Some n)) = refl
+message_back_lem (EndRequest h transmitter None) = refl
+message_back_lem (EndRequest h transmitter (Some n)) = refl
 message_back_lem (EndResponse h transmitter) = refl
-message_back_lem (TransmissionEnd h cause Absent) = refl
-message_back_lem (TransmissionEnd h cause (Given n)) = refl
+message_back_lem (TransmissionEnd h cause None) = refl
+message_back_lem (TransmissionEnd h cause (Some n)) = refl
 message_back_lem (TransmissionEndResponse h) = refl
 message_back_lem (Ack h source about) = refl
 
-abbrev asked_back : Asks → Asked
-asked_back (request ssrc user source) = Request ssrc (name_back user) (name_back source)
-asked_back (end ssrc transmitter) = End ssrc (name_back transmitter)
-asked_back (end_response ssrc ack) = EndResponse (record { ssrc = ssrc; ack = ack })
-asked_back nothing = Nothing
-asked_back (refusal number at) = AskedRefused (record { number = number; at = at })
+abbrev asked_back : Asks → Result (Option Asked) Refusal
+asked_back (request ssrc user source) = Ok (Some (Request ssrc (name_back user) (name_back source)))
+asked_back (end ssrc transmitter) = Ok (Some (End ssrc (name_back transmitter)))
+asked_back (end_response ssrc ack) = Ok (Some (EndResponse (record { ssrc = ssrc; ack = ack })))
+asked_back nothing = Ok None
+asked_back (refusal number at) = Err (refusal_by number at)
 
-asked_back_lem : (x : Asked) → asked_back (asked_said x) ≡ x
-asked_back_lem (Request ssrc user source) = refl
-asked_back_lem (End ssrc transmitter) = refl
-asked_back_lem (EndResponse h) = refl
-asked_back_lem Nothing = refl
-asked_back_lem (AskedRefused r) = refl
+asked_back_lem : (x : Result (Option Asked) Refusal) → asked_back (asked_said x) ≡ x
+asked_back_lem (Ok None) = refl
+asked_back_lem (Ok (Some (Request ssrc user source))) = refl
+asked_back_lem (Ok (Some (End ssrc transmitter))) = refl
+asked_back_lem (Ok (Some (EndResponse h))) = refl
+asked_back_lem (Err r) = rw (refusal_back r)
 
-read_back_lem : (r : Reading) → read_back (read_said r) ≡ r
-read_back_lem (Read m) = message_back_lem m
-read_back_lem (Refused r) = refl
+read_back_lem : (r : Result Message Refusal) → read_back (read_said r) ≡ r
+read_back_lem (Ok m) = message_back_lem m
+read_back_lem (Err r) = rw (refusal_back r)
 
 -- ---- so no two say the same
 
@@ -103,13 +101,13 @@ read_back_lem (Refused r) = refl
 pub message_apart : (x y : Message) → message_said x ≡ message_said y → x ≡ y
 message_apart x y e = inside (sym (message_back_lem x) ∙ ap read_back e ∙ message_back_lem y)
   where
-    inside : {a b : Message} → ◌≡◌ {A = Reading} (Read a) (Read b) → a ≡ b
+    inside : {a b : Message} → ◌≡◌ {A = Result Message Refusal} (Ok a) (Ok b) → a ≡ b
     inside q = cc
 
 -- of answers to a packet
-pub reading_apart : (x y : Reading) → read_said x ≡ read_said y → x ≡ y
+pub reading_apart : (x y : Result Message Refusal) → read_said x ≡ read_said y → x ≡ y
 reading_apart x y e = sym (read_back_lem x) ∙ ap read_back e ∙ read_back_lem y
 
 -- of what packets ask
-pub asked_apart : (x y : Asked) → asked_said x ≡ asked_said y → x ≡ y
+pub asked_apart : (x y : Result (Option Asked) Refusal) → asked_said x ≡ asked_said y → x ≡ y
 asked_apart x y e = sym (asked_back_lem x) ∙ ap asked_back e ∙ asked_back_lem y

@@ -1,9 +1,11 @@
 -- What a packet asks of the controller, as far as an event goes by it (document 01, "Stream record": "A packet makes an event only so: kinds 1 and 3 by
 -- sender's seat, stream found from Source ID or User ID; kind 6 on the sender's own stream"). Assumes nothing.
-use Rattle.std.specs.Prelude.{ℕ, Bool, get_or, eqb}
+use Rattle.std.specs.Prelude.{ℕ, Bool, get_or, eqb, Option, Some, None, Result, Ok, Err}
 use Rattle.octets.specs.Choice.{pick}
+use Rattle.sheet.specs.declared.Refusal.{Refusal}
+use Rattle.sheet.specs.Refusal.{refusal_number, refusal_line}
 use Rattle.packet.specs.declared.Asked.{Asked}
-use Rattle.packet.specs.declared.Asked.TheVariants.{Request, End, EndResponse, Nothing, Refused}
+use Rattle.packet.specs.declared.Asked.TheVariants.{Request, End, EndResponse}
 use Rattle.kinds.specs.Judge.{Held, absent}
 use Rattle.kinds.specs.Reading.{Outcome, reads, refused}
 use Rattle.packet.specs.Message.{name_said}
@@ -24,9 +26,12 @@ asks_of (reads kind ssrc ack values) =
     (pick (eqb kind 6) (end_response ssrc ack) nothing))
 asks_of (refused number at) = refusal number at
 
-abbrev pub asked_said : Asked → Asks
-asked_said (Request ssrc user source) = request ssrc (name_said user) (name_said source)
-asked_said (End ssrc transmitter) = end ssrc (name_said transmitter)
-asked_said (EndResponse h) = end_response h.ssrc h.ack
-asked_said Nothing = nothing
-asked_said (Refused r) = refusal r.number r.at
+abbrev pub asks_said : Option Asked → Asks
+asks_said None = nothing
+asks_said (Some (Request ssrc user source)) = request ssrc (name_said user) (name_said source)
+asks_said (Some (End ssrc transmitter)) = end ssrc (name_said transmitter)
+asks_said (Some (EndResponse h)) = end_response h.ssrc h.ack
+
+abbrev pub asked_said : Result (Option Asked) Refusal → Asks
+asked_said (Ok a) = asks_said a
+asked_said (Err r) = refusal (refusal_number r) (refusal_line r)

@@ -1,11 +1,9 @@
 -- What the inner functions say of a message's head and of its row. The public promises rest on these, and nobody need
 -- believe them: each is only a step of a proof. Assumes nothing.
-use Rattle.std.specs.Prelude.{ℕ, Bool, true, not, ◌&&◌, List, [], ◌∷◌, eqb}
+use Rattle.std.specs.Prelude.{ℕ, Bool, true, not, ◌&&◌, List, [], ◌∷◌, Option, Some, None, eqb}
 use Rattle.fields.specs.Header.{ssrc_in, ack_asked}
 use Rattle.packet.specs.declared.Head.{Head}
 use Rattle.packet.specs.declared.Name.{Name}
-use Rattle.packet.specs.declared.Indicator.{Indicator}
-use Rattle.packet.specs.declared.Indicator.TheVariants.{Absent, Given}
 use Rattle.packet.specs.declared.Verdict.{Verdict}
 use Rattle.packet.specs.declared.Verdict.TheVariants.{Granted, Rejected}
 use Rattle.packet.specs.declared.Message.{Message}
@@ -17,9 +15,9 @@ head_in p = record { ssrc = ssrc_in p; ack = ack_asked p }
 
 -- ---- a message as a row
 
-abbrev pub indicator_number : Indicator → ℕ
-indicator_number Absent = no_number
-indicator_number (Given n) = n
+abbrev pub indicator_number : Option ℕ → ℕ
+indicator_number None = no_number
+indicator_number (Some n) = n
 
 abbrev pub result_number : Verdict → ℕ
 result_number Granted = 1
@@ -37,9 +35,9 @@ row_with kind h user transmitter result cause indicator source about =
 abbrev pub is_number : ℕ → Bool
 is_number n = not (eqb n no_number)
 
-abbrev pub is_indicator : Indicator → Bool
-is_indicator Absent = true
-is_indicator (Given n) = is_number n
+abbrev pub is_indicator : Option ℕ → Bool
+is_indicator None = true
+is_indicator (Some n) = is_number n
 
 abbrev pub is_verdict : Verdict → Bool
 is_verdict Granted = true

@@ -1,24 +1,22 @@
 -- A message's values (document 01, "Packet"): all that a kind has. Assumes nothing.
-use Rattle.std.specs.Prelude.{ℕ, List, [], ◌∷◌}
+use Rattle.std.specs.Prelude.{ℕ, List, [], ◌∷◌, Option, Some, None, Result, Ok, Err}
+use Rattle.sheet.specs.declared.Refusal.{Refusal}
+use Rattle.sheet.specs.Refusal.{refusal_number, refusal_line}
 use Rattle.packet.specs.declared.Name.{Name}
 use Rattle.packet.specs.declared.Head.{Head}
-use Rattle.packet.specs.declared.Indicator.{Indicator}
-use Rattle.packet.specs.declared.Indicator.TheVariants.{Absent, Given}
 use Rattle.packet.specs.declared.Verdict.{Verdict}
 use Rattle.packet.specs.declared.Verdict.TheVariants.{Granted, Rejected}
 use Rattle.packet.specs.declared.Message.{Message}
 use Rattle.packet.specs.declared.Message.TheVariants.{ReceiveRequest, ReceiveResponse, EndRequest, EndResponse, TransmissionEnd, TransmissionEndResponse, Ack}
-use Rattle.packet.specs.declared.Reading.{Reading}
-use Rattle.packet.specs.declared.Reading.TheVariants.{Read, Refused}
 use Rattle.kinds.specs.Judge.{Held, absent, given, named}
 use Rattle.kinds.specs.Reading.{Outcome, reads, refused}
 
 abbrev pub name_said : Name → Held
 name_said n = named n.at n.len
 
-abbrev pub indicator_said : Indicator → Held
-indicator_said Absent = absent
-indicator_said (Given n) = given n
+abbrev pub indicator_said : Option ℕ → Held
+indicator_said None = absent
+indicator_said (Some n) = given n
 
 -- "Result, Reject Cause exactly if Result is 0"
 abbrev pub result_said : Verdict → Held
@@ -42,6 +40,6 @@ message_said (TransmissionEnd h cause i) = headed 5 h (given cause ∷ indicator
 message_said (TransmissionEndResponse h) = headed 6 h []
 message_said (Ack h source about) = headed 7 h (given source ∷ given about ∷ [])
 
-abbrev pub read_said : Reading → Outcome
-read_said (Read m) = message_said m
-read_said (Refused r) = refused r.number r.at
+abbrev pub read_said : Result Message Refusal → Outcome
+read_said (Ok m) = message_said m
+read_said (Err r) = refused (refusal_number r) (refusal_line r)

@@ -1,11 +1,11 @@
 -- What each public function promises, one predicate a function, NAME≡: the equation that its answer meets, for every input.
 -- Beside it, NAME-once: no second answer meets it. Assumes nothing.
-use Rattle.std.specs.Prelude.{◌≡◌, ℕ, List}
+use Rattle.std.specs.Prelude.{◌≡◌, ℕ, List, Option, Result}
 use Rattle.octets.specs.Promises.{one_answer, one_value}
+use Rattle.sheet.specs.declared.Refusal.{Refusal}
 use Rattle.sheet.specs.declared.Sheet.{Sheet}
 use Rattle.kinds.specs.declared.Numbers.{Numbers}
 use Rattle.packet.specs.declared.Message.{Message}
-use Rattle.packet.specs.declared.Reading.{Reading}
 use Rattle.packet.specs.declared.Asked.{Asked}
 use Rattle.kinds.specs.Kind.{numbers_of}
 use Rattle.kinds.specs.Reading.{read_by, read_of}
@@ -22,24 +22,24 @@ pub numbers_of-once : (sheet : Sheet) (x y : Numbers) → numbers_of≡ sheet x 
 numbers_of-once sheet x y e f = one_value x y e f
 
 -- the message under these numbers, or the refusal
-abbrev pub read_by≡ : Numbers → List ℕ → Reading → Type 0
+abbrev pub read_by≡ : Numbers → List ℕ → Result Message Refusal → Type 0
 read_by≡ n p r = read_said r ≡ read_by n p
 
-pub read_by-once : (n : Numbers) (p : List ℕ) (x y : Reading) → read_by≡ n p x → read_by≡ n p y → x ≡ y
+pub read_by-once : (n : Numbers) (p : List ℕ) (x y : Result Message Refusal) → read_by≡ n p x → read_by≡ n p y → x ≡ y
 read_by-once n p x y e f = one_answer read_said reading_apart x y e f
 
 -- the message, or the refusal
-abbrev pub read≡ : Sheet → List ℕ → Reading → Type 0
+abbrev pub read≡ : Sheet → List ℕ → Result Message Refusal → Type 0
 read≡ sheet p r = read_said r ≡ read_of sheet p
 
-pub read-once : (sheet : Sheet) (p : List ℕ) (x y : Reading) → read≡ sheet p x → read≡ sheet p y → x ≡ y
+pub read-once : (sheet : Sheet) (p : List ℕ) (x y : Result Message Refusal) → read≡ sheet p x → read≡ sheet p y → x ≡ y
 read-once sheet p x y e f = one_answer read_said reading_apart x y e f
 
 -- what a packet asks under these numbers, or the refusal
-abbrev pub asked≡ : Numbers → List ℕ → Asked → Type 0
+abbrev pub asked≡ : Numbers → List ℕ → Result (Option Asked) Refusal → Type 0
 asked≡ n p r = asked_said r ≡ asks_of (read_by n p)
 
-pub asked-once : (n : Numbers) (p : List ℕ) (x y : Asked) → asked≡ n p x → asked≡ n p y → x ≡ y
+pub asked-once : (n : Numbers) (p : List ℕ) (x y : Result (Option Asked) Refusal) → asked≡ n p x → asked≡ n p y → x ≡ y
 asked-once n p x y e f = one_answer asked_said asked_apart x y e f
 
 -- the row of a message, which stands for it

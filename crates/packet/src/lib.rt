@@ -4,13 +4,8 @@
 pub mod row;
 mod values;
 
-ghost use Rattle.std.specs.Prelude.{◌≡◌};
 ghost use Rattle.sheet.specs.Value.{sheet_in};
 ghost use Rattle.kinds.specs.Kind.{numbers_of};
-ghost use Rattle.kinds.specs.Reading.{refused};
-ghost use Rattle.packet.specs.Message.{read_said};
-ghost use Rattle.packet.specs.Asked.{asks_of, asked_said};
-ghost use Rattle.kinds.specs.Inner.{Sorted, read_from};
 ghost use Rattle.kinds.specs.Promises.{found_by≡};
 ghost use Rattle.packet.specs.Promises.{numbers_of≡, read_by≡, read≡, asked≡};
 
@@ -48,38 +43,31 @@ pub struct Name {
     pub len: u32,
 }
 
-// The Transmission Indicator, which may be absent.
-#[derive(Clone, Copy)]
-pub enum Indicator {
-    Absent,
-    Given(u16),
-}
-
-// Result 1, or Result 0 with its Reject Cause.
+// Result 1, or Result 0 with its Reject Cause. No Result of Rattle's: a message that says Rejected was read well.
 #[derive(Clone, Copy)]
 pub enum Verdict {
     Granted,
     Rejected(u16),
 }
 
-// The seven messages, in the order of document 01's kinds.
+// The seven messages, in the order of document 01's kinds. The Transmission Indicator may be absent.
 #[derive(Clone, Copy)]
 pub enum Message {
     ReceiveRequest {
         head: Head,
         user: Name,
         source: Name,
-        indicator: Indicator,
+        indicator: Option<u16>,
     },
     ReceiveResponse {
         head: Head,
         verdict: Verdict,
-        indicator: Indicator,
+        indicator: Option<u16>,
     },
     EndRequest {
         head: Head,
         transmitter: Name,
-        indicator: Indicator,
+        indicator: Option<u16>,
     },
     EndResponse {
         head: Head,
@@ -88,7 +76,7 @@ pub enum Message {
     TransmissionEnd {
         head: Head,
         cause: u16,
-        indicator: Indicator,
+        indicator: Option<u16>,
     },
     TransmissionEndResponse {
         head: Head,
@@ -100,41 +88,16 @@ pub enum Message {
     },
 }
 
-// A message, or why there is none.
-#[derive(Clone, Copy)]
-pub enum Reading {
-    Read(Message),
-    Refused(Refusal),
-}
-
-// What a packet asks of the controller: of the kinds that make an event, what the event goes by; nothing, for a message of another kind; or why it is
-// no message.
+// What a packet asks of the controller: of the kinds that make an event, what the event goes by.
 #[derive(Clone, Copy)]
 pub enum Asked {
     Request { ssrc: u32, user: Name, source: Name },
     End { ssrc: u32, transmitter: Name },
     EndResponse { head: Head },
-    Nothing,
-    Refused(Refusal),
 }
 
-// What the reader looks at of a sheet.
-pub fn numbers_of(sheet: Sheet) -> Numbers
-    ensures { numbers_of≡ sheet result }
-{
-    Numbers {
-        request: sheet.request,
-        response: sheet.response,
-        endrequest: sheet.endrequest,
-        endresponse: sheet.endresponse,
-        txend: sheet.txend,
-        txendresponse: sheet.txendresponse,
-        ack: sheet.ack,
-        resultid: sheet.resultid,
-    }
-}
-
-// The same of numbers that are lent; zeros where there are not as many as a sheet has.
+// What the reader looks at of numbers that are lent; zeros where there are not as many as a sheet has. (No Option: `asked≡` speaks of `sheet_in`, which is all
+// zeros there.)
 fn numbers_in(numbers: &[u32]) -> Numbers
     ensures { numbers_of≡ (sheet_in numbers.now) result }
 {
@@ -153,77 +116,53 @@ fn numbers_in(numbers: &[u32]) -> Numbers
     }
 }
 
-// A refusal by its number alone.
-fn refused(number: u32) -> Reading
-    ensures { read_said result ≡ refused number 0 }
+// What it looks at of a sheet.
+pub fn numbers_of(sheet: Sheet) -> Numbers
+    ensures { numbers_of≡ sheet result }
 {
-    Reading::Refused(Refusal { number, at: 0 })
-}
-
-// The message that a packet was found to be.
-fn told(packet: &[u8], found: Found) -> Reading
-    requires { found.refusal ≡ 0 → Sorted packet.now found }
-    ensures { read_said result ≡ read_from packet.now found }
-{
-    if found.refusal != 0 {
-        return refused(found.refusal);
-    }
-    let head = values::head_of(packet);
-    let places = found.places;
-    Reading::Read(values::message_of(packet, found.kind, head, places))
+    numbers_in(&sheet::numbers::numbers_of(sheet))
 }
 
 // Reads a packet under these numbers: a message, or 1, 2, 3, 4 or 5, checked in that order. Whether a sheet has them is not asked.
-pub fn read_by(numbers: Numbers, packet: &[u8]) -> Reading
+pub fn read_by(numbers: Numbers, packet: &[u8]) -> Result<Message, Refusal>
     ensures { read_by≡ numbers packet.now result }
 {
-    told(packet, found_by(numbers, packet))
+    let found = found_by(numbers, packet)?;
+    Ok(values::message_of(packet, found))
 }
 
 // What a packet is under a sheet's numbers, lent.
-fn found_lent(numbers: &[u32], packet: &[u8]) -> Found
+fn found_lent(numbers: &[u32], packet: &[u8]) -> Result<Found, Refusal>
     ensures { found_by≡ (numbers_of (sheet_in numbers.now)) packet.now result }
 {
-    found_by(numbers_in(&numbers[..]), &packet[..])
+    found_by(numbers_in(numbers), packet)
 }
 
 // Reads a packet, a sheet's numbers lent: a message, or 12 line 0, 1, 2, 3, 4 or 5, checked in that order.
-pub fn read_lent(numbers: &[u32], packet: &[u8]) -> Reading
+#[tactic(auto, unfolding(kinds::specs::Reading::read_of))]
+pub fn read_lent(numbers: &[u32], packet: &[u8]) -> Result<Message, Refusal>
     ensures { read≡ (sheet_in numbers.now) packet.now result }
 {
     if !are_valid(numbers) {
-        return refused(12);
+        return Err(Refusal::Sheet(0));
     }
-    told(packet, found_lent(numbers, packet))
+    let found = found_lent(numbers, packet)?;
+    Ok(values::message_of(packet, found))
 }
 
-// The same, the sheet by value.
-pub fn read(sheet: Sheet, packet: &[u8]) -> Reading
+// The same, the sheet by value. A trait over both forms would be longer than this one call.
+pub fn read(sheet: Sheet, packet: &[u8]) -> Result<Message, Refusal>
     ensures { read≡ sheet packet.now result }
 {
-    let numbers = sheet::numbers::numbers_of(sheet);
-    read_lent(&numbers[..], packet)
+    read_lent(&sheet::numbers::numbers_of(sheet), packet)
 }
 
-// What a packet asks for that was found to be this.
-fn asking(packet: &[u8], found: Found) -> Asked
-    requires { found.refusal ≡ 0 → Sorted packet.now found }
-    ensures { asked_said result ≡ asks_of (read_from packet.now found) }
-{
-    if found.refusal != 0 {
-        return Asked::Refused(Refusal {
-            number: found.refusal,
-            at: 0,
-        });
-    }
-    let head = values::head_of(packet);
-    let places = found.places;
-    values::asked_of(packet, found.kind, head, places)
-}
-
-// What a packet asks of the controller, a sheet's numbers lent, or 1, 2, 3, 4 or 5. Whether a sheet has them is not asked.
-pub fn asked_lent(numbers: &[u32], packet: &[u8]) -> Asked
+// What a packet asks of the controller, a sheet's numbers lent: nothing, if it is a message of another kind; or 1, 2, 3, 4 or 5. Whether a sheet has the
+// numbers is not asked.
+#[tactic(auto, unfolding(crate::specs::Asked::asks_of))]
+pub fn asked_lent(numbers: &[u32], packet: &[u8]) -> Result<Option<Asked>, Refusal>
     ensures { asked≡ (numbers_of (sheet_in numbers.now)) packet.now result }
 {
-    asking(packet, found_lent(numbers, packet))
+    let found = found_lent(numbers, packet)?;
+    Ok(values::asked_of(packet, found))
 }

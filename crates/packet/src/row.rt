@@ -1,10 +1,11 @@
 // A message as a row of numbers: kind, SSRC, Ack asked, User ID's place and length, named transmitter's place and length, Result, cause, Indicator,
-// Source, Message Type (document 01, "Bench program": the ten values of a message; a name has two numbers).
+// Source, Message Type (document 01, "Bench program": the ten values of a message; a name has two numbers). Numbers, a kind's too, as they are what C lends and
+// is lent.
 ghost use Rattle.std.specs.Prelude.{◌≡◌, T};
 ghost use Rattle.packet.specs.Inner.{indicator_number, result_number, cause_number, row_with, is_indicator, is_verdict};
 ghost use Rattle.packet.specs.Promises.{row_of≡};
 
-use super::{Head, Indicator, Message, Name, Verdict};
+use super::{Head, Message, Name, Verdict};
 
 // Where in a row each stands; of a name its place, and its length behind that.
 pub const KIND: usize = 0;
@@ -36,12 +37,12 @@ pub const NONE: u32 = 4294967295;
 // Where a message has no name.
 const NOBODY: Name = Name { at: 0, len: 0 };
 
-fn indicated(indicator: Indicator) -> u32
+fn indicated(indicator: Option<u16>) -> u32
     ensures { (result ≡ indicator_number indicator) × T (is_indicator indicator) }
 {
     match indicator {
-        Indicator::Absent => NONE,
-        Indicator::Given(number) => number as u32,
+        None => NONE,
+        Some(number) => u32::from(number),
     }
 }
 
@@ -63,7 +64,7 @@ fn cause_of(verdict: Verdict) -> u32
     }
 }
 
-// A row with these numbers.
+// A row with these numbers. (A struct of the seven behind the head was tried: reading P1 then took 463 instructions in place of 415.)
 fn row_with(
     kind: u32,
     head: Head,

@@ -6,3 +6,4 @@ pub mod Unwritable
 pub mod From
 pub mod Plans
 pub mod Claims
+pub mod Planning

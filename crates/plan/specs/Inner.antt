@@ -1,26 +1,25 @@
 -- What the inner functions say of what is to be written. The public promise rests on these, and nobody need believe them: each is
 -- only a step of a proof. Assumes nothing.
-use Rattle.std.specs.Prelude.{◌≡◌, ℕ, ◌+◌, ◌-◌, ◌*◌, Bool, true, ◌&&◌, ◌||◌, List, [], ◌∷◌, get_or, eqb, leb, ltb}
+use Rattle.std.specs.Prelude.{◌≡◌, ℕ, ◌+◌, ◌-◌, ◌*◌, Bool, true, ◌&&◌, ◌||◌, List, [], ◌∷◌, get_or, Option as Maybe, Some, None, eqb, leb, ltb}
 use Rattle.std.proofs.Math.Option.{Option, none, some}
 use Rattle.octets.specs.Choice.{pick, same, every}
 use Rattle.sheet.specs.declared.Sheet.{Sheet}
 use Rattle.packet.specs.declared.Head.{Head}
 use Rattle.packet.specs.declared.Name.{Name}
-use Rattle.packet.specs.declared.Indicator.{Indicator}
-use Rattle.packet.specs.declared.Indicator.TheVariants.{Absent, Given}
 use Rattle.packet.specs.declared.Verdict.{Verdict}
 use Rattle.packet.specs.declared.Verdict.TheVariants.{Granted, Rejected}
 use Rattle.packet.specs.declared.Message.{Message}
 use Rattle.packet.specs.declared.Message.TheVariants.{ReceiveRequest, ReceiveResponse, EndRequest, EndResponse, TransmissionEnd, TransmissionEndResponse, Ack}
+use Rattle.kinds.specs.declared.kind.Kind.{Kind}
+use Rattle.kinds.specs.declared.kind.Kind.TheVariants.{ReceiveRequest as ReceiveRequestKind, ReceiveResponse as ReceiveResponseKind, EndRequest as EndRequestKind, EndResponse as EndResponseKind, TransmissionEnd as TransmissionEndKind, TransmissionEndResponse as TransmissionEndResponseKind, Ack as AckKind}
 use Rattle.kinds.specs.Judge.{Held, absent, given, named}
 use Rattle.kinds.specs.Reading.{Outcome}
 use Rattle.packet.specs.Row.{no_number, flag, columns, first_number, message_row, numbers_say}
 use Rattle.packet.specs.Claims.{name_right}
 use Rattle.packet.specs.Meaning.{meaning}
 use Rattle.plan.specs.declared.Part.{Part}
-use Rattle.plan.specs.declared.Part.TheVariants.{Absent as NoPart, Word, Named}
+use Rattle.plan.specs.declared.Part.TheVariants.{Absent, Word, Named}
 use Rattle.plan.specs.declared.Plan.{Plan}
-use Rattle.plan.specs.declared.messages.Fields.{Fields}
 use Rattle.plan.specs.declared.standing.Span.{Span}
 use Rattle.plan.specs.Packet.{within, first_octet, packet_for}
 use Rattle.plan.specs.Plan.{plan_right, plan_packet}
@@ -33,65 +32,54 @@ number_part id number = Word (id * 0x1000000 + 0x20000 + number)
 
 -- the same, where there is one
 abbrev pub optional_part : ℕ → ℕ → Part
-optional_part id number = pick (eqb number no_number) NoPart (number_part id number)
+optional_part id number = pick (eqb number no_number) Absent (number_part id number)
 
 -- the name whose place stands here in a row
 abbrev pub named_part : List ℕ → ℕ → Part
 named_part row k = Named (record { at = get_or row k 0; len = get_or row (k + 1) 0 })
 
-abbrev pub indicator_part : Indicator → Part
-indicator_part Absent = NoPart
-indicator_part (Given n) = number_part 13 n
+abbrev pub indicator_part : Maybe ℕ → Part
+indicator_part None = Absent
+indicator_part (Some n) = number_part 13 n
 
 abbrev pub result_part : ℕ → Verdict → Part
 result_part id Granted = number_part id 1
 result_part id (Rejected cause) = number_part id 0
 
 abbrev pub cause_part : Verdict → Part
-cause_part Granted = NoPart
+cause_part Granted = Absent
 cause_part (Rejected cause) = number_part 2 cause
 
-abbrev pub fields_with : Part → Part → Part → Fields
-fields_with first second third = record { first = first; second = second; third = third }
-
 -- the fields of a message, where the Result has this ID
-abbrev pub fields_for : ℕ → Message → Fields
-fields_for id (ReceiveRequest h user source i) = fields_with (Named user) (Named source) (indicator_part i)
-fields_for id (ReceiveResponse h v i) = fields_with (result_part id v) (cause_part v) (indicator_part i)
-fields_for id (EndRequest h transmitter i) = fields_with (Named transmitter) (indicator_part i) NoPart
-fields_for id (EndResponse h transmitter) = fields_with (Named transmitter) NoPart NoPart
-fields_for id (TransmissionEnd h cause i) = fields_with (number_part 2 cause) (indicator_part i) NoPart
-fields_for id (TransmissionEndResponse h) = fields_with NoPart NoPart NoPart
-fields_for id (Ack h source about) = fields_with (number_part 10 source) (number_part 12 (about * 256)) NoPart
+abbrev pub parts_for : ℕ → Message → List Part
+parts_for id (ReceiveRequest h user source i) = Named user ∷ Named source ∷ indicator_part i ∷ []
+parts_for id (ReceiveResponse h v i) = result_part id v ∷ cause_part v ∷ indicator_part i ∷ []
+parts_for id (EndRequest h transmitter i) = Named transmitter ∷ indicator_part i ∷ Absent ∷ []
+parts_for id (EndResponse h transmitter) = Named transmitter ∷ Absent ∷ Absent ∷ []
+parts_for id (TransmissionEnd h cause i) = number_part 2 cause ∷ indicator_part i ∷ Absent ∷ []
+parts_for id (TransmissionEndResponse h) = Absent ∷ Absent ∷ Absent ∷ []
+parts_for id (Ack h source about) = number_part 10 source ∷ number_part 12 (about * 256) ∷ Absent ∷ []
 
-abbrev pub plan_with : Head → ℕ → ℕ → Fields → Plan
-plan_with h letters number fields =
-    record {
-      start = first_octet h.ack number;
-      letters = letters;
-      ssrc = h.ssrc;
-      first = fields.first;
-      second = fields.second;
-      third = fields.third;
-    }
+abbrev pub plan_with : Head → ℕ → ℕ → List Part → Plan
+plan_with h letters number parts = record { start = first_octet h.ack number; letters = letters; ssrc = h.ssrc; parts = parts }
 
 -- "MCV0", "MCV1" or "MCV2", as one number
 abbrev pub letters_for : ℕ → ℕ
 letters_for kind = pick (eqb kind 1) 0x4D435630 (pick (eqb kind 2) 0x4D435631 0x4D435632)
 
 abbrev pub plan_for : Sheet → Message → Plan
-plan_for s (ReceiveRequest h user source i) = plan_with h (letters_for 1) s.request (fields_for s.resultid (ReceiveRequest h user source i))
-plan_for s (ReceiveResponse h v i) = plan_with h (letters_for 2) s.response (fields_for s.resultid (ReceiveResponse h v i))
-plan_for s (EndRequest h transmitter i) = plan_with h (letters_for 3) s.endrequest (fields_for s.resultid (EndRequest h transmitter i))
-plan_for s (EndResponse h transmitter) = plan_with h (letters_for 4) s.endresponse (fields_for s.resultid (EndResponse h transmitter))
-plan_for s (TransmissionEnd h cause i) = plan_with h (letters_for 5) s.txend (fields_for s.resultid (TransmissionEnd h cause i))
-plan_for s (TransmissionEndResponse h) = plan_with h (letters_for 6) s.txendresponse (fields_for s.resultid (TransmissionEndResponse h))
-plan_for s (Ack h source about) = plan_with h (letters_for 7) s.ack (fields_for s.resultid (Ack h source about))
+plan_for s (ReceiveRequest h user source i) = plan_with h (letters_for 1) s.request (parts_for s.resultid (ReceiveRequest h user source i))
+plan_for s (ReceiveResponse h v i) = plan_with h (letters_for 2) s.response (parts_for s.resultid (ReceiveResponse h v i))
+plan_for s (EndRequest h transmitter i) = plan_with h (letters_for 3) s.endrequest (parts_for s.resultid (EndRequest h transmitter i))
+plan_for s (EndResponse h transmitter) = plan_with h (letters_for 4) s.endresponse (parts_for s.resultid (EndResponse h transmitter))
+plan_for s (TransmissionEnd h cause i) = plan_with h (letters_for 5) s.txend (parts_for s.resultid (TransmissionEnd h cause i))
+plan_for s (TransmissionEndResponse h) = plan_with h (letters_for 6) s.txendresponse (parts_for s.resultid (TransmissionEndResponse h))
+plan_for s (Ack h source about) = plan_with h (letters_for 7) s.ack (parts_for s.resultid (Ack h source about))
 
 -- its numbers are no wider than their types say
-abbrev pub indicator_within : Indicator → Bool
-indicator_within Absent = true
-indicator_within (Given n) = within 2 n
+abbrev pub indicator_within : Maybe ℕ → Bool
+indicator_within None = true
+indicator_within (Some n) = within 2 n
 
 abbrev pub verdict_within : Verdict → Bool
 verdict_within Granted = true
@@ -131,6 +119,22 @@ size_bound = 0x100000008
 
 abbrev pub span : ℕ → ℕ → ℕ → Span
 span names from end = record { names = names; from = from; end = end }
+
+-- the kind with a number
+unfoldable pub kind_with_number : ℕ → Maybe Kind
+kind_with_number n =
+    get_or
+    (None
+    ∷ Some ReceiveRequestKind
+    ∷ Some ReceiveResponseKind
+    ∷ Some EndRequestKind
+    ∷ Some EndResponseKind
+    ∷ Some TransmissionEndKind
+    ∷ Some TransmissionEndResponseKind
+    ∷ Some AckKind
+    ∷ [])
+    n
+    None
 
 -- where the names of a kind begin, and where its numbers begin and end
 unfoldable pub span_for : ℕ → Span
@@ -179,8 +183,8 @@ numbers_fit row =
     leb 1 kind && (leb kind 7 && every (fits_at row) (columns kind))
 
 -- the message of a kind with these numbers
-abbrev pub indicator_from : ℕ → Indicator
-indicator_from n = pick (eqb n no_number) Absent (Given n)
+abbrev pub indicator_from : ℕ → Maybe ℕ
+indicator_from n = pick (eqb n no_number) None (Some n)
 
 abbrev pub verdict_from : ℕ → ℕ → Verdict
 verdict_from result cause = pick (eqb result 1) Granted (Rejected cause)

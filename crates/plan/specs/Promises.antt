@@ -1,16 +1,16 @@
 -- What each public function promises, one predicate a function, NAME≡: the equation that its answer meets, for every input.
 -- Beside it, NAME-once: no second answer meets it. Assumes nothing.
-use Rattle.std.specs.Prelude.{◌≡◌, refl, ℕ, List}
+use Rattle.std.specs.Prelude.{◌≡◌, refl, ℕ, List, [], ◌∷◌, map, Result, Ok, Err}
 use Rattle.std.proofs.Common.{sym, ap, ◌∙◌}
 use Rattle.octets.specs.Promises.{one_answer, one_value}
+use Rattle.sheet.specs.declared.Refusal.{Refusal}
+use Rattle.sheet.specs.Refusal.{refusal_by, refusal_back}
 use Rattle.kinds.specs.Judge.{Held, absent, given, named}
 use Rattle.packet.specs.Row.{message_in}
 use Rattle.plan.specs.declared.Part.{Part}
 use Rattle.plan.specs.declared.Part.TheVariants.{Absent, Word, Named}
 use Rattle.plan.specs.declared.Plan.{Plan}
-use Rattle.plan.specs.declared.Planned.{Planned}
-use Rattle.plan.specs.declared.Planned.TheVariants.{Packet, Refused}
-use Rattle.plan.specs.Plan.{Said, plans, refuses, part_said, planned_said, plan_of, field_size, plan_size}
+use Rattle.plan.specs.Plan.{Said, plans, refuses, part_said, planned_said, plan_of, plan_size}
 
 -- ---- answers that say the same are the same: from what is said the answer is got back
 
@@ -24,45 +24,30 @@ part_back_lem Absent = refl
 part_back_lem (Word w) = refl
 part_back_lem (Named n) = refl
 
-abbrev planned_back : Said → Planned
-planned_back (plans start letters ssrc first second third) =
-    Packet (
-    record {
-      start = start;
-      letters = letters;
-      ssrc = ssrc;
-      first = part_back first;
-      second = part_back second;
-      third = part_back third;
-    }
-    )
-planned_back (refuses number) = Refused number
+parts_back_lem : (ps : List Part) → map part_back (map part_said ps) ≡ ps
+parts_back_lem [] = refl
+parts_back_lem (p ∷ ps) = rw (part_back_lem p, parts_back_lem ps)
 
-planned_back_lem : (p : Planned) → planned_back (planned_said p) ≡ p
-planned_back_lem (Packet p) = rw (part_back_lem p.first, part_back_lem p.second, part_back_lem p.third)
-planned_back_lem (Refused number) = refl
+abbrev planned_back : Said → Result Plan Refusal
+planned_back (plans start letters ssrc parts) = Ok (record { start = start; letters = letters; ssrc = ssrc; parts = map part_back parts })
+planned_back (refuses number line) = Err (refusal_by number line)
 
-pub planned_apart : (x y : Planned) → planned_said x ≡ planned_said y → x ≡ y
+planned_back_lem : (p : Result Plan Refusal) → planned_back (planned_said p) ≡ p
+planned_back_lem (Ok p) = rw (parts_back_lem p.parts)
+planned_back_lem (Err r) = rw (refusal_back r)
+
+pub planned_apart : (x y : Result Plan Refusal) → planned_said x ≡ planned_said y → x ≡ y
 planned_apart x y e = sym (planned_back_lem x) ∙ ap planned_back e ∙ planned_back_lem y
 
 -- ---- plan_of
 
 -- the plan of the message that a row stands for, under these numbers, or the refusal
-abbrev pub plan_of≡ : List ℕ → List ℕ → List ℕ → Planned → Type 0
+abbrev pub plan_of≡ : List ℕ → List ℕ → List ℕ → Result Plan Refusal → Type 0
 plan_of≡ numbers message names r = planned_said r ≡ plan_of numbers (message_in message) names
 
-pub plan_of-once : (numbers message names : List ℕ) (x y : Planned)
+pub plan_of-once : (numbers message names : List ℕ) (x y : Result Plan Refusal)
     → plan_of≡ numbers message names x → plan_of≡ numbers message names y → x ≡ y
 plan_of-once numbers message names x y e f = one_answer planned_said planned_apart x y e f
-
--- ---- sizes::field_size
-
--- the octets of a field whose value is so long
-abbrev pub field_size≡ : ℕ → ℕ → Type 0
-field_size≡ len r = r ≡ field_size len
-
-pub field_size-once : (len x y : ℕ) → field_size≡ len x → field_size≡ len y → x ≡ y
-field_size-once len x y e f = one_value x y e f
 
 -- ---- sizes::size_of
 

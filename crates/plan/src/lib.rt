@@ -7,14 +7,14 @@ mod names;
 pub mod sizes;
 mod standing;
 
-ghost use Rattle.std.specs.Prelude.{◌≡◌, ◌&&◌};
-ghost use Rattle.plan.specs.Inner.{is_message_row, numbers_fit};
 ghost use Rattle.plan.specs.Promises.{plan_of≡};
 
 use packet::Name;
-use packet::row::NUMBERS;
+use packet::row::{KIND, NUMBERS};
+use sheet::{Refusal, numbers};
+use standing::Row;
 
-// A field to be written: none, one that fills a word, or a User ID.
+// A field to be written: none, one that fills a word, or a User ID. (An Option of the other two would be one level more at each match.)
 #[derive(Clone, Copy)]
 pub enum Part {
     Absent,
@@ -22,47 +22,39 @@ pub enum Part {
     Named(Name),
 }
 
-// The first octet, the letters as one number, the SSRC, and the fields.
+// No message has more fields.
+pub const PARTS: usize = 3;
+
+// The first octet, the letters as one number, the SSRC, and the fields in the order written.
 #[derive(Clone, Copy)]
 pub struct Plan {
     pub start: u8,
     pub letters: u32,
     pub ssrc: u32,
-    pub first: Part,
-    pub second: Part,
-    pub third: Part,
-}
-
-// The packet to write, or the number of the refusal.
-#[derive(Clone, Copy)]
-pub enum Planned {
-    Packet(Plan),
-    Refused(u32),
-}
-
-// Whether a row stands for a message whose numbers fit.
-fn stands(message: &[u32]) -> bool
-    ensures { result ≡ (is_message_row message.now && numbers_fit message.now) }
-{
-    if message.len() != NUMBERS {
-        return false;
-    }
-    standing::is_row(message) & standing::fits(message)
+    pub parts: [Part; PARTS],
 }
 
 // The plan of the message of a row (`packet::row`) whose names lie in `names`, under these numbers; or 12 line 0 where they go into no packet, or 5,
 // checked in that order. Whether a sheet has the numbers is not asked.
-pub fn plan_of(numbers: &[u32], message: &[u32], names: &[u8]) -> Planned
+#[tactic(auto, using(crate::proofs::Laws::Planning::checks))]
+pub fn plan_of(numbers: &[u32], message: &[u32], names: &[u8]) -> Result<Plan, Refusal>
     ensures { plan_of≡ numbers.now message.now names.now result }
 {
+    let Ok(numbers) = <&numbers::Numbers>::try_from(numbers) else {
+        return Err(Refusal::Sheet(0));
+    };
     if !messages::fit(numbers) {
-        return Planned::Refused(12);
+        return Err(Refusal::Sheet(0));
     }
-    if !stands(message) {
-        return Planned::Refused(5);
+    let Ok(message) = <&[u32; NUMBERS]>::try_from(message) else {
+        return Err(Refusal::Fields);
+    };
+    let Some(kind) = standing::kind_of(message[KIND]) else {
+        return Err(Refusal::Fields);
+    };
+    let row = Row { kind, message };
+    if !standing::stands(row) || !names::are_right(row, names) {
+        return Err(Refusal::Fields);
     }
-    if !names::are_right(message, names) {
-        return Planned::Refused(5);
-    }
-    Planned::Packet(messages::plan_for(numbers, message))
+    Ok(messages::plan_for(numbers, row))
 }

@@ -2,16 +2,10 @@
 ghost use Rattle.std.specs.Prelude.{◌≡◌, ◌≤◌};
 ghost use Rattle.plan.specs.Plan.{part_size};
 ghost use Rattle.plan.specs.Inner.{size_bound};
-ghost use Rattle.plan.specs.Promises.{field_size≡, size_of≡};
+ghost use Rattle.plan.specs.Promises.{size_of≡};
 
 use super::{Part, Plan};
-
-// How many octets a field takes whose value is so long, with its padding.
-pub fn field_size(len: u32) -> usize
-    ensures { field_size≡ len result }
-{
-    (2 + (len as usize) + 3) / 4 * 4
-}
+use fields::walk;
 
 // How many octets a field takes.
 fn part_size(part: Part) -> usize
@@ -20,7 +14,7 @@ fn part_size(part: Part) -> usize
     match part {
         Part::Absent => 0,
         Part::Word(_) => 4,
-        Part::Named(name) => field_size(name.len),
+        Part::Named(name) => walk::size_of(name.len),
     }
 }
 
@@ -28,8 +22,9 @@ fn part_size(part: Part) -> usize
 pub fn size_of(plan: Plan) -> usize
     ensures { size_of≡ plan result }
 {
-    let first = plan.first;
-    let second = plan.second;
-    let third = plan.third;
-    part_size(first) + part_size(second) + part_size(third)
+    let mut size = 0;
+    for part in &plan.parts {
+        size += part_size(*part);
+    }
+    size
 }

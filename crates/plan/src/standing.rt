@@ -1,13 +1,41 @@
 // Which rows of numbers stand for a message that some packet reads to, its names left out (document 01, "Packet", and refusal 5).
-ghost use Rattle.std.specs.Prelude.{◌≡◌, ◌&&◌, length, eqb, ltb};
-ghost use Rattle.plan.specs.Inner.{span, span_for, stands_at, is_message_row, indicator_fits, cause_fits, numbers_fit};
+ghost use Rattle.std.specs.Prelude.{◌≡◌, ◌&&◌, length, get_or, eqb, ltb};
+ghost use Rattle.kinds.specs.Found.{kind_number};
+ghost use Rattle.plan.specs.Inner.{kind_with_number, span_for, stands_at, is_message_row, indicator_fits, cause_fits, numbers_fit};
 
-use packet::row::{ABOUT, ACK, CAUSE, INDICATOR, KIND, NONE, NUMBERS, RESULT, SOURCE};
+use kinds::Kind;
+use packet::row::{ABOUT, ACK, CAUSE, INDICATOR, NAMED, NONE, NUMBERS, RESULT, SOURCE, USER};
+
+// A row of numbers, and the kind that it names.
+#[derive(Clone, Copy)]
+pub struct Row<'a> {
+    pub kind: Kind,
+    pub message: &'a [u32; NUMBERS],
+    pub ghost counted: { length message.now ≡ 12 },
+    pub ghost names_kind: { get_or message.now 0 0 ≡ kind_number kind },
+}
 
 // A number of 8 bits is less, and one of 16.
 const OCTET_END: u32 = 256;
 
 const PAIR_END: u32 = 65536;
+
+// The kind with this number in document 01's table. (An Option and no `TryFrom`: of a number that is no kind's there is nothing to say.)
+#[tactic(auto, using(crate::proofs::Laws::Rows::no_kind), unfolding(crate::specs::Inner::kind_with_number))]
+pub fn kind_of(number: u32) -> Option<Kind>
+    ensures { result ≡ kind_with_number number }
+{
+    match number {
+        1 => Some(Kind::ReceiveRequest),
+        2 => Some(Kind::ReceiveResponse),
+        3 => Some(Kind::EndRequest),
+        4 => Some(Kind::EndResponse),
+        5 => Some(Kind::TransmissionEnd),
+        6 => Some(Kind::TransmissionEndResponse),
+        7 => Some(Kind::Ack),
+        _ => None,
+    }
+}
 
 // ---- nothing stands where the kind has nothing
 
@@ -19,28 +47,25 @@ struct Span {
     end: usize,
 }
 
-fn spanning(names: usize, from: usize, end: usize) -> Span
-    ensures { result ≡ span names from end }
+#[tactic(auto, unfolding(crate::specs::Inner::span_for))]
+fn span_of(kind: Kind) -> Span
+    ensures { result ≡ span_for (kind_number kind) }
 {
+    let (names, from, end) = match kind {
+        Kind::ReceiveRequest => (USER, INDICATOR, SOURCE),
+        Kind::ReceiveResponse => (RESULT, RESULT, SOURCE),
+        Kind::EndRequest => (NAMED, INDICATOR, SOURCE),
+        Kind::EndResponse => (NAMED, NUMBERS, NUMBERS),
+        Kind::TransmissionEnd => (RESULT, CAUSE, SOURCE),
+        Kind::TransmissionEndResponse => (RESULT, NUMBERS, NUMBERS),
+        Kind::Ack => (RESULT, SOURCE, NUMBERS),
+    };
     Span { names, from, end }
 }
 
-fn span_of(kind: u32) -> Span
-    ensures { result ≡ span_for kind }
-{
-    match kind {
-        1 => spanning(3, 9, 10),
-        2 => spanning(7, 7, 10),
-        3 => spanning(5, 9, 10),
-        4 => spanning(5, 12, 12),
-        5 => spanning(7, 8, 10),
-        7 => spanning(7, 10, 12),
-        _ => spanning(7, 12, 12),
-    }
-}
-
 // Whether a number may stand at this place of a row: 0 or 1 for the Ack, and where the kind has nothing, what the reader puts there.
-fn stands(span: Span, i: usize, number: u32) -> bool
+#[tactic(auto, using(crate::proofs::Laws::Rows::flags), unfolding(crate::specs::Inner::stands_at))]
+fn may_stand(span: Span, i: usize, number: u32) -> bool
     ensures { result ≡ stands_at span i number }
 {
     if i == ACK {
@@ -52,17 +77,15 @@ fn stands(span: Span, i: usize, number: u32) -> bool
     ((span.from <= i) & (i < span.end)) | (number == NONE)
 }
 
-// Whether a row is some message's, with nothing where its kind has nothing.
-pub fn is_row(message: &[u32]) -> bool
-    requires { length message.now ≡ 12 }
-    ensures { result ≡ is_message_row message.now }
+// Whether a row is some message's, with nothing where its kind has nothing. (With the span in a variable, measured, a call takes more instructions.)
+fn is_row(row: Row) -> bool
+    ensures { result ≡ is_message_row row.entry.message.now }
 {
-    let mut i = ACK;
-    while i < NUMBERS {
-        if !stands(span_of(message[KIND]), i, message[i]) {
+    let message = row.message;
+    for i in ACK..NUMBERS {
+        if !may_stand(span_of(row.kind), i, message[i]) {
             return false;
         }
-        i += 1;
     }
     true
 }
@@ -70,6 +93,7 @@ pub fn is_row(message: &[u32]) -> bool
 // ---- its numbers fit
 
 // Whether a number is that of no Indicator, or one of 16 bits.
+#[tactic(auto, unfolding(crate::specs::Inner::indicator_fits))]
 fn is_indicator(number: u32) -> bool
     ensures { result ≡ indicator_fits number }
 {
@@ -80,6 +104,7 @@ fn is_indicator(number: u32) -> bool
 }
 
 // Result 1 and no cause, or Result 0 and a cause of 16 bits.
+#[tactic(auto, unfolding(crate::specs::Inner::cause_fits))]
 fn is_verdict(res: u32, cause: u32) -> bool
     ensures { result ≡ (ltb res 2 && cause_fits (eqb res 1) cause) }
 {
@@ -92,18 +117,25 @@ fn is_verdict(res: u32, cause: u32) -> bool
     cause < PAIR_END
 }
 
-// Whether the kind is one of the seven, and a row's numbers are as wide as its fields.
-pub fn fits(message: &[u32]) -> bool
-    requires { length message.now ≡ 12 }
-    ensures { result ≡ numbers_fit message.now }
+// Whether the numbers of a row are as wide as its kind's fields.
+#[tactic(auto, using(crate::proofs::Laws::Rows::fits))]
+fn fits(row: Row) -> bool
+    ensures { result ≡ numbers_fit row.entry.message.now }
 {
+    let message = row.message;
     let narrow = is_indicator(message[INDICATOR]);
-    match message[KIND] {
-        1 | 3 => narrow,
-        2 => is_verdict(message[RESULT], message[CAUSE]) & narrow,
-        4 | 6 => true,
-        5 => (message[CAUSE] < PAIR_END) & narrow,
-        7 => (message[SOURCE] < PAIR_END) & (message[ABOUT] < OCTET_END),
-        _ => false,
+    match row.kind {
+        Kind::ReceiveRequest | Kind::EndRequest => narrow,
+        Kind::ReceiveResponse => is_verdict(message[RESULT], message[CAUSE]) & narrow,
+        Kind::EndResponse | Kind::TransmissionEndResponse => true,
+        Kind::TransmissionEnd => (message[CAUSE] < PAIR_END) & narrow,
+        Kind::Ack => (message[SOURCE] < PAIR_END) & (message[ABOUT] < OCTET_END),
     }
+}
+
+// Whether a row stands for a message whose numbers fit.
+pub fn stands(row: Row) -> bool
+    ensures { result ≡ (is_message_row row.entry.message.now && numbers_fit row.entry.message.now) }
+{
+    is_row(row) && fits(row)
 }

@@ -1,26 +1,20 @@
 -- The three steps (document 01, "Three steps", and "Refusals": 12 line 0, 9, 10, in that order). Each is handed the eight records and says
 -- what it leaves of them. Assumes nothing.
-use Rattle.std.specs.Prelude.{ℕ, Bool, ◌&&◌, List, set}
+use Rattle.std.specs.Prelude.{ℕ, Bool, ◌&&◌, List, set, Result, Ok, Err}
 use Rattle.octets.specs.Choice.{pick}
 use Rattle.sheet.specs.declared.Sheet.{Sheet}
 use Rattle.sheet.specs.declared.Refusal.{Refusal}
+use Rattle.sheet.specs.Refusal.{refusal_number, refusal_line}
 use Rattle.sheet.specs.Value.{valid_alone}
 use Rattle.streams.specs.declared.Record.{Record}
 use Rattle.streams.specs.declared.Event.{Event}
 use Rattle.streams.specs.declared.stream.Rules.{Rules}
 use Rattle.streams.specs.Record.{rules_of, on_sheet, own, count, same_record, legal}
+use Rattle.streams.specs.declared.Answer.{Answer}
 use Rattle.streams.specs.Answer.{Reply, answer_said}
 use Rattle.streams.specs.Table.{rule_for, sender_on}
 use Rattle.reception.specs.declared.Attempt.{Attempt}
-use Rattle.reception.specs.declared.Seen.{Seen}
-use Rattle.reception.specs.declared.Seen.TheVariants.{Read, Refused as SeenRefused}
-use Rattle.reception.specs.declared.Worked.{Worked}
-use Rattle.reception.specs.declared.Worked.TheVariants.{Out, Refused as WorkedRefused}
-use Rattle.reception.specs.declared.Taking.{Taking}
-use Rattle.reception.specs.declared.Taking.TheVariants.{Took, Refused as TakingRefused}
 use Rattle.reception.specs.declared.Stored.{Stored}
-use Rattle.reception.specs.declared.Counted.{Counted}
-use Rattle.reception.specs.declared.Counted.TheVariants.{Count, Refused as CountedRefused}
 
 -- ---- what a step says and leaves
 
@@ -109,27 +103,25 @@ count_of s stream rs = leaving rs (counted (seen_of s stream (own rs stream)))
 
 -- ---- the answers of the code set out
 
-abbrev pub refusal_said : {A : Type 0} → Refusal → Said A
-refusal_said r = refuses r.number r.at
+-- what was asked for, set out by `f`, or the refusal
+abbrev pub said_by : {A B : Type 0} → (A → B) → Result A Refusal → Said B
+said_by f (Ok x) = gives (f x)
+said_by f (Err r) = refuses (refusal_number r) (refusal_line r)
 
-abbrev pub seen_said : Seen → Said Record
-seen_said (Read x) = gives x
-seen_said (SeenRefused r) = refusal_said r
+abbrev pub seen_said : Result Record Refusal → Said Record
+seen_said r = said_by (λ (x : Record). x) r
 
 abbrev pub attempt_said : Attempt → Try
 attempt_said a = record { stream = a.stream; seen = a.seen; wanted = a.wanted; reply = answer_said a.answer }
 
-abbrev pub worked_said : Worked → Said Try
-worked_said (Out a) = gives (attempt_said a)
-worked_said (WorkedRefused r) = refusal_said r
+abbrev pub worked_said : Result Attempt Refusal → Said Try
+worked_said r = said_by attempt_said r
 
-abbrev pub taking_said : Taking → Said Reply
-taking_said (Took a) = gives (answer_said a)
-taking_said (TakingRefused r) = refusal_said r
+abbrev pub taking_said : Result Answer Refusal → Said Reply
+taking_said r = said_by answer_said r
 
 abbrev pub stored_said : Stored → Left Reply
 stored_said r = leaving r.records (taking_said r.taking)
 
-abbrev pub counted_said : Counted → Said ℕ
-counted_said (Count n) = gives n
-counted_said (CountedRefused r) = refusal_said r
+abbrev pub counted_said : Result ℕ Refusal → Said ℕ
+counted_said r = said_by (λ (n : ℕ). n) r

@@ -1,5 +1,6 @@
 pub mod Put
 pub mod Records
+pub mod Chunks
 pub mod Whose
 pub mod Answers
 pub mod Held

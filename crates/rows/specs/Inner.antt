@@ -1,13 +1,13 @@
 -- What the inner functions say. The public promises rest on these, and nobody need believe them: each is only a step of a proof. Assumes nothing.
-use Rattle.std.specs.Prelude.{◌≡◌, ℕ, Bool, ◌&&◌, List, [], ◌∷◌, get_or, eqb, ltb}
-use Rattle.std.proofs.Math.Option.{some}
+use Rattle.std.specs.Prelude.{ℕ, Bool, List, [], ◌∷◌, get_or, eqb, ltb}
+use Rattle.std.proofs.Math.Option.{Option, none}
 use Rattle.octets.specs.Choice.{pick}
 use Rattle.streams.specs.declared.What.{What}
 use Rattle.streams.specs.declared.What.TheVariants.{Request, End, Open, T11, EndResponse, Release}
 use Rattle.streams.specs.declared.Answer.{Answer}
 use Rattle.streams.specs.declared.Answer.TheVariants.{GrantedFirst, Granted as GrantedMore, GrantedAgain, Rejected as AnswerRejected, Ended, EndedLast, Opened, EndRequested, Freed, FreedWithAck, ReleasedIdle, ReleasedWatched, ReleasedEnding, Discarded}
-use Rattle.reception.specs.declared.Attempt.{Attempt}
-use Rattle.rows.specs.Rows.{is_some, phase_in, record_in}
+use Rattle.streams.specs.declared.Record.{Record}
+use Rattle.rows.specs.Rows.{record_in}
 
 -- ---- events
 
@@ -48,21 +48,8 @@ likely_answers kind cause stops starts =
 abbrev pub likely_answer : ℕ → ℕ → ℕ → ℕ → ℕ → Answer
 likely_answer done kind cause stops starts = get_or (likely_answers kind cause stops starts) done Discarded
 
--- ---- attempts
+-- ---- records
 
--- a seat and receivers that fit an octet, and phases
-unfoldable pub octets_right : List ℕ → Bool
-octets_right row =
-    ltb (get_or row 0 0) 256
-    && (is_some (phase_in (get_or row 1 0))
-    && (ltb (get_or row 2 0) 256
-    && (is_some (phase_in (get_or row 3 0))
-    && ltb (get_or row 4 0) 256)))
-
--- what it has of the first five numbers of a row
-abbrev pub AttemptWith : List ℕ → Answer → Attempt → Type 0
-AttemptWith row answer a =
-    (a.stream ≡ get_or row 0 0)
-    × (record_in (get_or row 1 0) (get_or row 2 0) ≡ some a.seen)
-    × (record_in (get_or row 3 0) (get_or row 4 0) ≡ some a.wanted)
-    × (a.answer ≡ answer)
+-- the record of two numbers, the second of which fits an octet
+abbrev pub record_held : ℕ → ℕ → Option Record
+record_held p b = pick (ltb b 256) (record_in p b) none

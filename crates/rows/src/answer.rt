@@ -1,11 +1,10 @@
-// An answer as a row of numbers: its number, the kind of the message to send or 0, Result and cause, timers to stop, timers to start.
-ghost use Rattle.std.specs.Prelude.{◌≡◌, [], ◌∷◌};
-ghost use Rattle.rows.specs.Rows.{answer_in};
-ghost use Rattle.rows.specs.Held.{answering_said};
+// An answer as a row of numbers: its number, the kind of the message to send or 0, Result and cause, timers to stop, timers to start. Numbers, as they are what C
+// lends and is lent.
+ghost use Rattle.std.specs.Prelude.{◌≡◌};
 ghost use Rattle.rows.specs.Promises.{row_of≡, answer_in≡, is_answer≡};
 ghost use Rattle.rows.specs.Inner.{likely_answer, likely_grant, likely_end, likely_freed, likely_release};
 
-use super::NUMBER_END;
+use super::is_row;
 use packet::row::NONE;
 use reception::Answer;
 
@@ -19,6 +18,9 @@ pub const RESULT: usize = 2;
 
 pub const CAUSE: usize = 3;
 
+// A number of 16 bits is less.
+const NUMBER_END: u32 = 65536;
+
 // The timers, as they are summed.
 const T3: u32 = 1;
 
@@ -27,13 +29,6 @@ const T5: u32 = 2;
 const T6: u32 = 4;
 
 const T11: u32 = 8;
-
-// The answer that a row stands for.
-#[derive(Clone, Copy)]
-pub enum Answering {
-    Answer(Answer),
-    Nothing,
-}
 
 // ---- an answer as a row
 
@@ -45,11 +40,11 @@ pub fn row_of(answer: Answer) -> [u32; ANSWER]
         Answer::GrantedFirst => [1, 2, 1, NONE, T5 + T11, T6],
         Answer::Granted => [1, 2, 1, NONE, T5, T6],
         Answer::GrantedAgain => [1, 2, 1, NONE, 0, 0],
-        Answer::Rejected(cause) => [2, 2, 0, cause as u32, 0, 0],
+        Answer::Rejected(cause) => [2, 2, 0, u32::from(cause), 0, 0],
         Answer::Ended => [3, 4, NONE, NONE, 0, 0],
         Answer::EndedLast => [3, 4, NONE, NONE, 0, T11],
         Answer::Opened => [6, 0, NONE, NONE, 0, T11],
-        Answer::EndRequested(cause) => [4, 5, NONE, cause as u32, 0, T3],
+        Answer::EndRequested(cause) => [4, 5, NONE, u32::from(cause), 0, T3],
         Answer::Freed => [5, 0, NONE, NONE, T3, 0],
         Answer::FreedWithAck => [5, 7, NONE, NONE, T3, 0],
         Answer::ReleasedIdle => [7, 0, NONE, NONE, T11, 0],
@@ -116,49 +111,25 @@ fn likely(done: u32, kind: u32, cause: u16, stops: u32, starts: u32) -> Answer
     }
 }
 
-// The answer that these six stand for.
-fn answer_of(done: u32, kind: u32, res: u32, cause: u32, stops: u32, starts: u32) -> Answering
-    ensures { answering_said result ≡ answer_in (done ∷ kind ∷ res ∷ cause ∷ stops ∷ starts ∷ []) }
-{
-    let answer = likely(done, kind, (cause % NUMBER_END) as u16, stops, starts);
-    let own = row_of(answer);
-    if own[0] != done {
-        return Answering::Nothing;
-    }
-    if own[1] != kind {
-        return Answering::Nothing;
-    }
-    if own[2] != res {
-        return Answering::Nothing;
-    }
-    if own[3] != cause {
-        return Answering::Nothing;
-    }
-    if own[4] != stops {
-        return Answering::Nothing;
-    }
-    if own[5] != starts {
-        return Answering::Nothing;
-    }
-    Answering::Answer(answer)
-}
-
 // The answer that a row stands for.
-pub fn answer_in(row: &[u32]) -> Answering
+#[tactic(auto, using(crate::proofs::Laws::Answers::answer_uncounted))]
+pub fn answer_in(row: &[u32]) -> Option<Answer>
     ensures { answer_in≡ row.now result }
 {
-    if row.len() != ANSWER {
-        return Answering::Nothing;
+    let [done, kind, _, cause, stops, starts] = *row else {
+        return None;
+    };
+    let answer = likely(done, kind, (cause % NUMBER_END) as u16, stops, starts);
+    if is_row(row, &row_of(answer)) {
+        Some(answer)
+    } else {
+        None
     }
-    answer_of(row[0], row[1], row[2], row[3], row[4], row[5])
 }
 
 // Whether a row stands for an answer.
 pub fn is_answer(row: &[u32]) -> bool
     ensures { is_answer≡ row.now result }
 {
-    match answer_in(row) {
-        Answering::Answer(_) => true,
-        Answering::Nothing => false,
-    }
+    answer_in(row).is_some()
 }

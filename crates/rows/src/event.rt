@@ -1,44 +1,38 @@
-// An event as a row of numbers: what, stream, by, Ack asked.
+// An event as a row of numbers: what, stream, by, Ack asked. Numbers, as they are what C lends and is lent.
 ghost use Rattle.std.specs.Prelude.{◌≡◌};
-ghost use Rattle.rows.specs.Rows.{what_row};
+ghost use Rattle.rows.specs.Rows.{event_row};
 ghost use Rattle.rows.specs.Promises.{put_event≡, event_in≡};
 ghost use Rattle.rows.specs.Inner.{likely_what};
 
-use super::{OCTET_END, put};
+use super::{is_row, put};
 use reception::{Event, What};
+use sheet::Refusal;
 
 // How many numbers an event's row has.
 const EVENT: usize = 4;
 
-// The event that a row stands for, if it stands for one with seats that fit an octet.
-#[derive(Clone, Copy)]
-pub enum Eventing {
-    Event(Event),
-    Nothing,
-}
-
 // ---- an event as a row
 
-fn row_of(stream: u32, what: What) -> [u32; EVENT]
-    ensures { result ≡ what_row stream what }
+#[tactic(auto, unfolding(crate::specs::Rows::what_row, packet::specs::Row::flag))]
+fn row_of(event: Event) -> [u32; EVENT]
+    ensures { result ≡ event_row event }
 {
-    match what {
-        What::Request(by) => [1, stream, by as u32, 0],
-        What::End(by) => [2, stream, by as u32, 0],
+    let stream = u32::from(event.stream);
+    match event.what {
+        What::Request(by) => [1, stream, u32::from(by), 0],
+        What::End(by) => [2, stream, u32::from(by), 0],
         What::Open => [3, stream, 0, 0],
         What::T11 => [4, stream, 0, 0],
-        What::EndResponse(ack) => [5, stream, 0, ack as u32],
+        What::EndResponse(ack) => [5, stream, 0, u32::from(ack)],
         What::Release => [6, stream, 0, 0],
     }
 }
 
 // Puts an event's row into the front of a slice, or 11.
-pub fn put_event(out: &mut [u32], event: Event) -> u32
+pub fn put_event(out: &mut [u32], event: Event) -> Result<(), Refusal>
     ensures { put_event≡ out.old event result out.new }
 {
-    let what = event.what;
-    let row = row_of(event.stream as u32, what);
-    put(out, &row[..])
+    put(out, &row_of(event))
 }
 
 // ---- a row as an event
@@ -57,35 +51,23 @@ fn likely(number: u32, by: u8, ack: bool) -> What
     }
 }
 
-// The event that a row stands for.
+// The event that a row stands for, if it stands for one with seats that fit an octet.
 #[tactic(auto, using(crate::proofs::Laws::Events::event_uncounted))]
-pub fn event_in(row: &[u32]) -> Eventing
+pub fn event_in(row: &[u32]) -> Option<Event>
     ensures { event_in≡ row.now result }
 {
-    if row.len() != EVENT {
-        return Eventing::Nothing;
+    let [number, stream, by, ack] = *row else {
+        return None;
+    };
+    let stream = u8::try_from(stream).ok()?;
+    let by = u8::try_from(by).ok()?;
+    let event = Event {
+        stream,
+        what: likely(number, by, ack == 1),
+    };
+    if is_row(row, &row_of(event)) {
+        Some(event)
+    } else {
+        None
     }
-    let stream = row[1];
-    let by = row[2];
-    if OCTET_END <= stream {
-        return Eventing::Nothing;
-    }
-    if OCTET_END <= by {
-        return Eventing::Nothing;
-    }
-    let what = likely(row[0], by as u8, row[3] == 1);
-    let own = row_of(stream, what);
-    if own[0] != row[0] {
-        return Eventing::Nothing;
-    }
-    if own[2] != by {
-        return Eventing::Nothing;
-    }
-    if own[3] != row[3] {
-        return Eventing::Nothing;
-    }
-    Eventing::Event(Event {
-        stream: stream as u8,
-        what,
-    })
 }

@@ -8,38 +8,32 @@ pub mod event;
 mod record;
 pub mod records;
 
-ghost use Rattle.std.specs.Prelude.{◌≡◌};
+ghost use Rattle.std.specs.Prelude.{◌≡◌, Decides};
 ghost use Rattle.rows.specs.Promises.{put≡, put_number≡};
 
-pub const NO_ROOM: u32 = 11;
-
-// A number of 8 bits is less, and one of 16.
-pub const OCTET_END: u32 = 256;
-
-pub const NUMBER_END: u32 = 65536;
+use sheet::Refusal;
 
 // Puts a row into the front of a slice, or 11 where it is too short.
-pub fn put(out: &mut [u32], row: &[u32]) -> u32
+pub fn put(out: &mut [u32], row: &[u32]) -> Result<(), Refusal>
     ensures { put≡ out.old row.now result out.new }
 {
     if out.len() < row.len() {
-        return NO_ROOM;
+        return Err(Refusal::NoRoom);
     }
-    let mut i = 0;
-    while i < row.len() {
-        out[i] = row[i];
-        i += 1;
-    }
-    0
+    out[..row.len()].copy_from_slice(row);
+    Ok(())
 }
 
 // Puts one number into the front of a slice, or 11 where it has no room.
-pub fn put_number(out: &mut [u32], n: u32) -> u32
+pub fn put_number(out: &mut [u32], n: u32) -> Result<(), Refusal>
     ensures { put_number≡ out.old n result out.new }
 {
-    if out.len() == 0 {
-        return NO_ROOM;
-    }
-    out[0] = n;
-    0
+    put(out, &[n])
+}
+
+// Whether a row is these numbers. `==` of slices was tried: mcv_work_out and mcv_store take longer with it.
+fn is_row<const N: usize>(row: &[u32], numbers: &[u32; N]) -> bool
+    ensures { Decides result (row.now ≡ numbers.now) }
+{
+    row.len() == N && row.iter().zip(numbers).all(|(x, y)| x == y)
 }

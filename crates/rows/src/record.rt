@@ -1,39 +1,27 @@
 // One stream record by its two numbers, phase and receivers.
 ghost use Rattle.std.specs.Prelude.{◌≡◌};
-ghost use Rattle.streams.specs.Record.{phase_number};
-ghost use Rattle.rows.specs.Rows.{is_some, phase_in, record_by};
+ghost use Rattle.rows.specs.Rows.{record_by};
+ghost use Rattle.rows.specs.Held.{given};
+ghost use Rattle.rows.specs.Inner.{record_held};
 
 use reception::{Phase, Record};
 
-const LAST_PHASE: u32 = 3;
-
-pub fn number_of(phase: Phase) -> u8
-    ensures { result ≡ phase_number phase }
+// The record with this phase and these receivers, if the one is a phase's number and the others fit an octet.
+pub fn record_in(phase: u32, receivers: u32) -> Option<Record>
+    ensures { result ≡ given (record_held phase receivers) }
 {
-    match phase {
-        Phase::Free => 0,
-        Phase::Idle => 1,
-        Phase::Watched => 2,
-        Phase::Ending => 3,
-    }
-}
-
-// Whether a number is that of a phase.
-pub fn is_phase(number: u32) -> bool
-    ensures { result ≡ is_some (phase_in number) }
-{
-    number <= LAST_PHASE
+    Some(Record {
+        phase: Phase::try_from(phase).ok()?,
+        receivers: u8::try_from(receivers).ok()?,
+    })
 }
 
 // The record with this phase and these receivers; a number that is no phase's counts as the last one's.
 pub fn record_of(phase: u8, receivers: u8) -> Record
     ensures { result ≡ record_by phase receivers }
 {
-    let phase = match phase {
-        0 => Phase::Free,
-        1 => Phase::Idle,
-        2 => Phase::Watched,
-        _ => Phase::Ending,
-    };
-    Record { phase, receivers }
+    Record {
+        phase: Phase::try_from(u32::from(phase)).unwrap_or(Phase::Ending),
+        receivers,
+    }
 }

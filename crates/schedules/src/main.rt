@@ -6,21 +6,6 @@ mod question;
 mod routine;
 mod said;
 
-// Answers so many cases.
-fn answer_all(cases: u32, body: &mut [u8]) {
-    let mut left = cases;
-    while 0 < left {
-        let case = asked::next(body);
-        let length = case.length;
-        let answer = question::answer(case.what, &body[0..length]);
-        asked::write(&answer.octets, answer.length);
-        left -= 1;
-    }
-}
-
 fn main() {
-    let mut count = [0u8; 4];
-    io::read_full(0, &mut count);
-    let mut body = io::large_buffer();
-    answer_all(octets::u32_at(&count, 0), &mut body);
+    asked::answer_all(question::answer);
 }

@@ -1,229 +1,178 @@
 // Questions 9 to 12, each about some items, one after another. The answer has a row for each. How it all stands among octets: said.rt.
-ghost use Rattle.std.specs.Prelude.{◌≤◌, ◌<◌};
+ghost use Rattle.std.specs.Prelude.{◌<◌};
 
-use super::routine::State;
-use super::{routine, said};
+use super::routine::{State, Which, discarded};
+use super::said::{self, EVENT, RECORD, RECORDS, SAID, Said};
+use asked::reply::Reply;
 use asked::{MOST, NUMBERS};
-use octets::{u16_at, u32_at};
 use reception::{Attempt, Streams};
 use rows::records;
-use sheet::Sheet;
+use sheet::Refusal;
 
 // Behind the sheet's numbers stand the eight records, where a question has them.
-const START: usize = NUMBERS + said::RECORDS;
+const START: usize = NUMBERS + RECORDS;
 
-// A record seen and an event; a step; four events and eight moves; a stream, a record seen and one wanted.
-const SEEN_EVENT: usize = said::RECORD + said::EVENT;
+// A record seen and an event; a step; four events, and they with eight moves; a stream, a record seen and one wanted.
+const SEEN_EVENT: usize = RECORD + EVENT;
 
-const STEP: usize = 2 + said::EVENT;
+const STEP: usize = 2 + EVENT;
 
-const EVENTS: usize = 4 * said::EVENT;
+const EVENTS: usize = 4 * EVENT;
 
-const MOVES: usize = 8;
+const SCHEDULE: usize = EVENTS + 8;
 
-const ATTEMPT: usize = 1 + 2 * said::RECORD;
+const ATTEMPT: usize = 1 + 2 * RECORD;
 
-// What a step says and the records after it; what the four stores of a schedule say, and the records after them, the longest row of an answer.
-const STEP_SAID: usize = said::SAID + said::RECORDS;
+// How many rows an answer has at most: of what a step says, of that and the records after it, and of what the four stores of a schedule say and the
+// records after them.
+const SAIDS: usize = MOST / SAID;
 
-const SAIDS: usize = 4 * said::SAID;
+const STEPS: usize = MOST / (SAID + RECORDS);
 
-const ROW: usize = SAIDS + said::RECORDS;
+const SCHEDULES: usize = MOST / (4 * SAID + RECORDS);
 
-const OUT: usize = MOST + ROW;
-
-// ---- an item of each question
-
-// 9: what an event makes of the record seen before it, under the numbers of a value. Answer: what the working-out says.
-fn attempt(sheet: Sheet, mut state: State, item: &[u8]) -> State {
-    let seen = records::record_at(item, 0);
-    state.seen[0] = seen;
-    routine::works_out(sheet, state, 0, said::event_in(u32_at(item, said::RECORD)))
-}
-
-// Which of two routines an octet names.
-fn routine_of(octet: u16) -> usize
-    ensures { result < 2 }
+// The items of so many octets each from a place on, and so many of them at most.
+fn items<const SIZE: usize>(body: &[u8], start: usize, most: usize) -> &[[u8; SIZE]]
+    requires { 0 < SIZE }
 {
-    if octet == 0 { 0 } else { 1 }
-}
-
-// 10: a step of one of two routines on the eight records that stand behind the numbers of a value: what is done (1 read, 2 work out, 3 store, 4 count),
-// the routine, and the stream or the event. Answer: what it says, and the records after it.
-fn step(sheet: Sheet, state: State, item: &[u8]) -> State {
-    let head = u16_at(item, 0);
-    let r = routine_of(head % 256);
-    let word = u32_at(item, 2);
-    let stream = (word / 16777216) as u8;
-    match head / 256 {
-        1 => routine::reads(sheet, state, r, stream),
-        2 => routine::works_out(sheet, state, r, said::event_in(word)),
-        3 => routine::stores(sheet, state, r),
-        _ => routine::counts(sheet, state, stream),
-    }
-}
-
-// The attempt that an item is: a stream, a record seen and one wanted; nobody need have worked it out, and its answer is "discarded".
-fn attempt_in(item: &[u8]) -> Attempt {
-    let mut octets = [0u8; 4];
-    octets::put_u32(&mut octets, 0, u32_at(item, 1));
-    let seen = records::record_at(&octets, 0);
-    let wanted = records::record_at(&octets, 1);
-    routine::discarded((u16_at(item, 0) / 256) as u8, seen, wanted)
-}
-
-// 12: a store of such an attempt into the eight records that stand behind the numbers of a value. Answer: what it says, and the records after it.
-fn store(sheet: Sheet, records: Streams, item: &[u8]) -> State {
-    let mut state = routine::first(records);
-    let attempt = attempt_in(item);
-    state.attempts[0] = attempt;
-    routine::stores(sheet, state, 0)
-}
-
-// Which of four events a move is about.
-fn event_of(next: u16) -> usize
-    ensures { result < 4 }
-{
-    (next / 2 % 4) as usize
-}
-
-// A routine stores what it worked out, or it reads an event's stream and works the event out.
-fn moved(sheet: Sheet, state: State, item: &[u8], next: u16) -> State {
-    let k = event_of(next);
-    let r = k / 2;
-    if next % 2 == 1 {
-        return routine::stores(sheet, state, r);
-    }
-    let event = said::event_in(u32_at(item, k * said::EVENT));
-    let stream = event.stream;
-    let read = routine::reads(sheet, state, r, stream);
-    routine::works_out(sheet, read, r, event)
-}
-
-// A row of an answer, and the state after its item.
-#[derive(Clone, Copy)]
-struct Row {
-    state: State,
-    octets: [u8; ROW],
-}
-
-// 11: a schedule of two routines with two events each, from the eight records that stand behind the numbers of a value. Events 0 and 1 are one
-// routine's, 2 and 3 the other's; a move is twice its event's place, where the routine reads and works out, and one more where it stores. Answer: what
-// the store of each event says, and the records after all.
-fn play(sheet: Sheet, records: Streams, item: &[u8]) -> Row {
-    let mut state = routine::first(records);
-    let mut octets = [0u8; ROW];
-    let mut i = 0;
-    while i < MOVES {
-        let next = u16_at(item, EVENTS + i) / 256;
-        state = moved(sheet, state, item, next);
-        let said = state.said;
-        octets::put_octets(&mut octets, event_of(next) * said::SAID, &said);
-        i += 1;
-    }
-    let records = state.records;
-    octets::put_octets(&mut octets, SAIDS, &said::octets_of(records));
-    Row { state, octets }
-}
-
-// What a step said, and behind it the records, where the answer has them.
-fn row_of(state: State) -> Row {
-    let said = state.said;
-    let records = state.records;
-    let mut octets = [0u8; ROW];
-    octets::put_octets(&mut octets, 0, &said);
-    octets::put_octets(&mut octets, said::SAID, &said::octets_of(records));
-    Row { state, octets }
-}
-
-// ---- all items
-
-// Where the items begin, how many octets each has, and how many are said of it.
-#[derive(Clone, Copy)]
-struct Form {
-    start: usize,
-    size: usize,
-    said: usize,
-}
-
-// Of a question that is not known more is said than there is room for.
-fn form_of(asked: u8) -> Form
-    ensures { (result.start ≤ 92) × (result.size ≤ 24) × (0 < result.said) × (result.said ≤ 1021) }
-{
-    match asked {
-        9 => Form {
-            start: NUMBERS,
-            size: SEEN_EVENT,
-            said: said::SAID,
-        },
-        10 => Form {
-            start: START,
-            size: STEP,
-            said: STEP_SAID,
-        },
-        11 => Form {
-            start: START,
-            size: EVENTS + MOVES,
-            said: ROW,
-        },
-        12 => Form {
-            start: START,
-            size: ATTEMPT,
-            said: STEP_SAID,
-        },
-        _ => Form {
-            start: 0,
-            size: 0,
-            said: MOST + 1,
-        },
-    }
-}
-
-// The row of an answer for an item.
-fn row_in(asked: u8, sheet: Sheet, records: Streams, state: State, item: &[u8]) -> Row {
-    match asked {
-        9 => row_of(attempt(sheet, state, item)),
-        10 => row_of(step(sheet, state, item)),
-        12 => row_of(store(sheet, records, item)),
-        _ => play(sheet, records, item),
-    }
+    let (items, _) = body.get(start..).unwrap_or_default().as_chunks::<SIZE>();
+    &items[..items.len().min(most)]
 }
 
 // The records behind a value's numbers; free ones where there are none.
 fn records_of(body: &[u8]) -> Streams {
-    if body.len() < START {
-        return reception::all_free();
+    match body.get(NUMBERS..START) {
+        Some(octets) => said::records_in(octets),
+        None => reception::all_free(),
     }
-    said::records_in(&body[NUMBERS..START])
 }
 
-// An answer: behind its octets is room for what of a row is not said.
-#[derive(Clone, Copy)]
-pub struct Reply {
-    pub octets: [u8; OUT],
-    pub length: usize,
+// The state that a body sets out, before the first step.
+fn first(body: &[u8]) -> State {
+    State::first(asked::sheet_in(body), records_of(body))
 }
 
-// The answer to a question.
+// What a step said, and behind it the records.
+fn put_step(reply: Reply, state: State, said: Result<Said, Refusal>) -> Reply {
+    reply
+        .octets(&said::or_refused(said))
+        .octets(&said::octets_of(state.records))
+}
+
+// 9: what an event makes of the record seen before it, under the numbers of a value. Answer: what the working-out says.
+fn attempts(body: &[u8]) -> Reply {
+    let first = first(body);
+    let mut reply = Reply::empty();
+    for item in items::<SEEN_EVENT>(body, NUMBERS, SAIDS) {
+        let mut state = first;
+        state.one.seen = records::record_at(item, 0);
+        let said = state.works_out(Which::One, said::event_at(item, RECORD));
+        reply = reply.octets(&said::or_refused(said));
+    }
+    reply
+}
+
+// Which of two routines an octet names.
+fn routine_of(octet: u8) -> Which {
+    if octet == 0 { Which::One } else { Which::Other }
+}
+
+// What a step says: what is done (1 read, 2 work out, 3 store, 4 count), the routine, and the stream or the event. (A match on a number, as it comes from outside.)
+fn step(state: &mut State, item: &[u8; STEP]) -> Result<Said, Refusal> {
+    let which = routine_of(item[1]);
+    let stream = item[2];
+    match item[0] {
+        1 => state.reads(which, stream),
+        2 => state.works_out(which, said::event_at(item, 2)),
+        3 => state.stores(which),
+        _ => state.counts(stream),
+    }
+}
+
+// 10: steps of two routines on the eight records that stand behind the numbers of a value. Answer: what each says, and the records after it.
+fn steps(body: &[u8]) -> Reply {
+    let mut state = first(body);
+    let mut reply = Reply::empty();
+    for item in items::<STEP>(body, START, STEPS) {
+        let said = step(&mut state, item);
+        reply = put_step(reply, state, said);
+    }
+    reply
+}
+
+// A move about event k: its routine stores what it worked out, or it reads the event's stream and works the event out. (Which, says a bit that comes from outside.)
+fn moved(
+    state: &mut State,
+    item: &[u8; SCHEDULE],
+    k: usize,
+    is_store: bool,
+) -> Result<Said, Refusal>
+    requires { k < 4 }
+{
+    let which = if k < 2 { Which::One } else { Which::Other };
+    if is_store {
+        return state.stores(which);
+    }
+    let event = said::event_at(item, k * EVENT);
+    // A routine that may not read works out what it holds.
+    let _ = state.reads(which, event.stream);
+    state.works_out(which, event)
+}
+
+// A schedule: two routines with two events each, from the eight records that stand behind the numbers of a value. Events 0 and 1 are one routine's, 2
+// and 3 the other's; a move is twice its event's place, where the routine reads and works out, and one more where it stores.
+fn put_schedule(mut reply: Reply, mut state: State, item: &[u8; SCHEDULE]) -> Reply {
+    let mut saids = [[0; SAID]; 4];
+    for next in &item[EVENTS..] {
+        let k = usize::from(next / 2 % 4);
+        saids[k] = said::or_refused(moved(&mut state, item, k, next % 2 == 1));
+    }
+    for said in &saids {
+        reply = reply.octets(said);
+    }
+    reply.octets(&said::octets_of(state.records))
+}
+
+// 11: such schedules. Answer: what the last move of each event says, and the records after all.
+fn schedules(body: &[u8]) -> Reply {
+    let first = first(body);
+    let mut reply = Reply::empty();
+    for item in items::<SCHEDULE>(body, START, SCHEDULES) {
+        reply = put_schedule(reply, first, item);
+    }
+    reply
+}
+
+// The attempt that an item is: a stream, a record seen and one wanted; nobody need have worked it out, and its answer is "discarded".
+fn attempt_in(item: &[u8; ATTEMPT]) -> Attempt {
+    let octets = &item[1..];
+    discarded(
+        item[0],
+        records::record_at(octets, 0),
+        records::record_at(octets, 1),
+    )
+}
+
+// 12: a store of such an attempt into the eight records that stand behind the numbers of a value. Answer: what it says, and the records after it.
+fn stores(body: &[u8]) -> Reply {
+    let first = first(body);
+    let mut reply = Reply::empty();
+    for item in items::<ATTEMPT>(body, START, STEPS) {
+        let mut state = first;
+        state.one.attempt = attempt_in(item);
+        let said = state.stores(Which::One);
+        reply = put_step(reply, state, said);
+    }
+    reply
+}
+
+// The answer to a question; none to one that is not known. (A match on a number, as it comes from outside.)
 pub fn answer(asked: u8, body: &[u8]) -> Reply {
-    let sheet = asked::sheet_in(body);
-    let records = records_of(body);
-    let form = form_of(asked);
-    let mut state = routine::first(records);
-    let mut octets = [0u8; OUT];
-    let mut at = form.start;
-    let mut length = 0;
-    while length + form.said <= MOST {
-        let end = at + form.size;
-        if body.len() < end {
-            break;
-        }
-        let row = row_in(asked, sheet, records, state, &body[at..end]);
-        let said = row.octets;
-        state = row.state;
-        octets::put_octets(&mut octets, length, &said);
-        at = end;
-        length += form.said;
+    match asked {
+        9 => attempts(body),
+        10 => steps(body),
+        11 => schedules(body),
+        12 => stores(body),
+        _ => Reply::empty(),
     }
-    Reply { octets, length }
 }

@@ -1,19 +1,30 @@
-// Two routines that read, work out and store, one step after another.
-ghost use Rattle.std.specs.Prelude.{◌<◌};
-
-use super::said;
-use super::said::Said;
-use reception::{Answer, Attempt, Counted, Event, Record, Seen, Streams, Taking, Worked};
-use sheet::Sheet;
+// Two routines that read, work out and store, one step after another. A step is said, or a refusal.
+use super::said::{self, Said};
+use reception::{Answer, Attempt, Event, Record, Streams};
+use sheet::{Refusal, Sheet};
 use streams::stream;
 
-// The eight records; the record that each of two routines holds, and its attempt; what was last said.
+// The record that a routine holds, and its attempt.
+#[derive(Clone, Copy)]
+pub struct Routine {
+    pub seen: Record,
+    pub attempt: Attempt,
+}
+
+// One of the two routines.
+#[derive(Clone, Copy)]
+pub enum Which {
+    One,
+    Other,
+}
+
+// The sheet, the eight records, and the two routines.
 #[derive(Clone, Copy)]
 pub struct State {
+    sheet: Sheet,
     pub records: Streams,
-    pub seen: [Record; 2],
-    pub attempts: [Attempt; 2],
-    pub said: Said,
+    pub one: Routine,
+    pub other: Routine,
 }
 
 // An attempt on a stream that is answered "discarded".
@@ -26,74 +37,55 @@ pub fn discarded(stream: u8, seen: Record, wanted: Record) -> Attempt {
     }
 }
 
-// The state before the first step: each holds a Free record, and an attempt that changes nothing.
-pub fn first(records: Streams) -> State {
-    let free = stream::free();
-    State {
-        records,
-        seen: [free; 2],
-        attempts: [discarded(0, free, free); 2],
-        said: [0; said::SAID],
-    }
-}
-
-// ---- one step
-
-pub fn reads(sheet: Sheet, mut state: State, r: usize, stream: u8) -> State
-    requires { r < 2 }
-{
-    let records = state.records;
-    match reception::read(sheet, records, stream) {
-        Seen::Read(seen) => {
-            state.seen[r] = seen;
-            state.said = said::seen(stream, seen);
-        }
-        Seen::Refused(refusal) => {
-            state.said = said::refused(refusal);
+impl State {
+    // The state before the first step: each holds a Free record, and an attempt that changes nothing.
+    pub fn first(sheet: Sheet, records: Streams) -> State {
+        let free = stream::free();
+        let routine = Routine {
+            seen: free,
+            attempt: discarded(0, free, free),
+        };
+        State {
+            sheet,
+            records,
+            one: routine,
+            other: routine,
         }
     }
-    state
-}
 
-pub fn works_out(sheet: Sheet, mut state: State, r: usize, event: Event) -> State
-    requires { r < 2 }
-{
-    let seen = state.seen[r];
-    match reception::work_out(sheet, seen, event) {
-        Worked::Out(attempt) => {
-            state.attempts[r] = attempt;
-            state.said = said::worked_out(attempt);
-        }
-        Worked::Refused(refusal) => {
-            state.said = said::refused(refusal);
+    fn routine(&mut self, which: Which) -> &mut Routine {
+        match which {
+            Which::One => &mut self.one,
+            Which::Other => &mut self.other,
         }
     }
-    state
-}
 
-pub fn stores(sheet: Sheet, mut state: State, r: usize) -> State
-    requires { r < 2 }
-{
-    let attempt = state.attempts[r];
-    let records = state.records;
-    let stored = reception::store(sheet, attempt, records);
-    let records = stored.records;
-    let taking = stored.taking;
-    state.records = records;
-    let said = match taking {
-        Taking::Took(answer) => said::taken(attempt.stream, answer),
-        Taking::Refused(refusal) => said::refused(refusal),
-    };
-    state.said = said;
-    state
-}
+    // ---- one step of a routine
 
-pub fn counts(sheet: Sheet, mut state: State, stream: u8) -> State {
-    let records = state.records;
-    let said = match reception::count(sheet, records, stream) {
-        Counted::Count(n) => said::counted(stream, n),
-        Counted::Refused(refusal) => said::refused(refusal),
-    };
-    state.said = said;
-    state
+    pub fn reads(&mut self, which: Which, stream: u8) -> Result<Said, Refusal> {
+        let seen = reception::read(self.sheet, self.records, stream)?;
+        self.routine(which).seen = seen;
+        Ok(said::seen(stream, seen))
+    }
+
+    pub fn works_out(&mut self, which: Which, event: Event) -> Result<Said, Refusal> {
+        let seen = self.routine(which).seen;
+        let attempt = reception::work_out(self.sheet, seen, event)?;
+        self.routine(which).attempt = attempt;
+        Ok(said::worked_out(attempt))
+    }
+
+    pub fn stores(&mut self, which: Which) -> Result<Said, Refusal> {
+        let attempt = self.routine(which).attempt;
+        let stored = reception::store(self.sheet, attempt, self.records);
+        self.records = stored.records;
+        Ok(said::taken(attempt.stream, stored.taking?))
+    }
+
+    // ---- a step of either
+
+    pub fn counts(&self, stream: u8) -> Result<Said, Refusal> {
+        let n = reception::count(self.sheet, self.records, stream)?;
+        Ok(said::counted(stream, n))
+    }
 }

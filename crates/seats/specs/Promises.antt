@@ -1,6 +1,6 @@
 -- What each public function promises, one predicate a function, NAME≡: the equation that its answer meets, for every input.
 -- Beside it, NAME-once: no second answer meets it. Assumes nothing.
-use Rattle.std.specs.Prelude.{◌≡◌, ℕ, ◌+◌, Bool, List, length, drop}
+use Rattle.std.specs.Prelude.{◌≡◌, ℕ, ◌+◌, Bool, Option, List, length, drop}
 use Rattle.octets.specs.Choice.{same, front}
 use Rattle.octets.specs.Promises.{one_answer, one_value}
 use Rattle.sheet.specs.declared.Sheet.{Sheet}
@@ -8,7 +8,6 @@ use Rattle.sheet.specs.Judge.{visible, user_id}
 use Rattle.sheet.specs.Value.{name_of, sheet_in, valid_with}
 use Rattle.sheet.specs.Find.{seat_of_ssrc, seat_of_user, new_name}
 use Rattle.seats.specs.declared.Senders.{Senders}
-use Rattle.seats.specs.declared.Found.{Found}
 use Rattle.seats.specs.Found.{found_said, found_apart}
 
 -- some sheet reads to this struct and these User IDs
@@ -54,17 +53,17 @@ pub has_name-once : (row name : List ℕ) (x y : Bool) → has_name≡ row name 
 has_name-once row name x y p q = one_value x y p q
 
 -- the seat with this SSRC
-abbrev pub by_ssrc≡ : Senders → ℕ → Found → Type 0
+abbrev pub by_ssrc≡ : Senders → ℕ → Option ℕ → Type 0
 by_ssrc≡ senders ssrc r = found_said r ≡ seat_of_ssrc senders.seats senders.ssrcs ssrc
 
-pub by_ssrc-once : (senders : Senders) (ssrc : ℕ) (x y : Found) → by_ssrc≡ senders ssrc x → by_ssrc≡ senders ssrc y → x ≡ y
+pub by_ssrc-once : (senders : Senders) (ssrc : ℕ) (x y : Option ℕ) → by_ssrc≡ senders ssrc x → by_ssrc≡ senders ssrc y → x ≡ y
 by_ssrc-once senders ssrc x y p q = one_answer found_said found_apart x y p q
 
 -- the seat with this User ID
-abbrev pub by_user≡ : ℕ → List (List ℕ) → List ℕ → Found → Type 0
+abbrev pub by_user≡ : ℕ → List (List ℕ) → List ℕ → Option ℕ → Type 0
 by_user≡ seats users name r = found_said r ≡ seat_of_user seats users name
 
-pub by_user-once : (seats : ℕ) (users : List (List ℕ)) (name : List ℕ) (x y : Found) → by_user≡ seats users name x → by_user≡ seats users name y → x ≡ y
+pub by_user-once : (seats : ℕ) (users : List (List ℕ)) (name : List ℕ) (x y : Option ℕ) → by_user≡ seats users name x → by_user≡ seats users name y → x ≡ y
 by_user-once seats users name x y p q = one_answer found_said found_apart x y p q
 
 -- a name that can be a User ID and that none of the first seats has

@@ -19,30 +19,17 @@ pub struct Senders {
     pub ssrcs: [u32; SEATS],
 }
 
-// The seat that was looked for, counted from 0.
-#[derive(Clone, Copy)]
-pub enum Found {
-    Seat(u8),
-    Nobody,
-}
-
 // Whether some sheet reads to this struct and these User IDs.
 pub fn valid_with(sheet: Sheet, users: &Users) -> bool
     ensures { valid_with≡ sheet users.now result }
 {
-    if !valid(sheet) {
-        return false;
-    }
-    are_good_rows(users, sheet.seats)
+    valid(sheet) && are_good_rows(users, sheet.seats)
 }
 
-// The same of a sheet's numbers in the order of its lines: whether there are as many as a sheet has, and some sheet reads to them and these
-// User IDs.
+// The same of a sheet's numbers in the order of its lines, which C lends: whether there are as many as a sheet has, and some sheet reads to them and these
+// User IDs. (A trait over both forms would be longer than this.)
 pub fn are_valid_with(numbers: &[u32], users: &Users) -> bool
     ensures { are_valid_with≡ numbers.now users.now result }
 {
-    if !are_valid(&numbers[..]) {
-        return false;
-    }
-    are_good_rows(users, numbers[SEATS_LINE])
+    are_valid(numbers) && are_good_rows(users, numbers[SEATS_LINE])
 }

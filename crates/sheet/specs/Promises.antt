@@ -3,6 +3,8 @@
 use Rattle.std.specs.Prelude.{◌≡◌, ℕ, Bool, List, ◌++◌}
 use Rattle.octets.specs.Promises.{one_value}
 use Rattle.sheet.specs.declared.Sheet.{Sheet}
+use Rattle.sheet.specs.declared.Refusal.{Refusal}
+use Rattle.sheet.specs.Refusal.{refusal_number, refusal_line}
 use Rattle.sheet.specs.Judge.{good_number}
 use Rattle.sheet.specs.Value.{numbers_of, sheet_in, valid_alone}
 
@@ -33,3 +35,17 @@ is_good_number≡ earlier n r = r ≡ good_number earlier n
 
 pub is_good_number-once : (earlier : List ℕ) (n : ℕ) (x y : Bool) → is_good_number≡ earlier n x → is_good_number≡ earlier n y → x ≡ y
 is_good_number-once earlier n x y p q = one_value x y p q
+
+-- a refusal's number
+abbrev pub number≡ : Refusal → ℕ → Type 0
+number≡ refusal r = r ≡ refusal_number refusal
+
+pub number-once : (refusal : Refusal) (x y : ℕ) → number≡ refusal x → number≡ refusal y → x ≡ y
+number-once refusal x y p q = one_value x y p q
+
+-- the line beside it
+abbrev pub line≡ : Refusal → ℕ → Type 0
+line≡ refusal r = r ≡ refusal_line refusal
+
+pub line-once : (refusal : Refusal) (x y : ℕ) → line≡ refusal x → line≡ refusal y → x ≡ y
+line-once refusal x y p q = one_value x y p q

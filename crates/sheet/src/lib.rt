@@ -4,6 +4,7 @@
 mod line;
 pub mod number;
 pub mod numbers;
+mod refusals;
 mod table;
 
 ghost use Rattle.sheet.specs.Promises.{valid≡};
@@ -34,17 +35,27 @@ pub const WIDTH: usize = 60;
 // The User IDs of eight seats, 60 octets each; unused octets are zero.
 pub type Users = [[u8; WIDTH]; SEATS];
 
-// Document 01's number of a refusal, 0 where there is none, and its place: the line for 12, else 0.
-#[derive(Clone, Copy)]
-pub struct Refusal {
-    pub number: u32,
-    pub at: u32,
+// Why something is refused: document 01's refusals, in the order of their numbers, from 1. That of a sheet names the first bad or missing line, or line 0
+// where the sheet was handed over as a value.
+#[derive(Clone, Copy, PartialEq, Eq)]
+pub enum Refusal {
+    Size,
+    Header,
+    Kind,
+    Layout,
+    Fields,
+    Sender,
+    Transmitter,
+    NoEvent,
+    NotLegal,
+    Stale,
+    NoRoom,
+    Sheet(u16),
 }
 
-// Whether some sheet reads to this struct.
+// Whether some sheet reads to this struct; `numbers::are_valid` says it of the numbers that C lends. A trait over both forms would be longer than this one call.
 pub fn valid(sheet: Sheet) -> bool
     ensures { valid≡ sheet result }
 {
-    let numbers = numbers::numbers_of(sheet);
-    numbers::are_valid(&numbers[..])
+    numbers::are_valid(&numbers::numbers_of(sheet))
 }

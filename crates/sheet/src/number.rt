@@ -2,15 +2,11 @@
 ghost use Rattle.sheet.specs.Promises.{is_good_number≡};
 
 use super::line::is_taken;
-use super::table::{is_within, rule_of};
+use super::table::rule_of;
 
 // Whether a number may stand on the line behind these, the first of a sheet.
 pub fn is_good_number(earlier: &[u32], n: u64) -> bool
     ensures { is_good_number≡ earlier.now n result }
 {
-    let rule = rule_of(earlier.len());
-    if !is_within(rule, n) {
-        return false;
-    }
-    !is_taken(earlier, rule.family, rule.eldest, n as u32)
+    rule_of(earlier.len()).allows(n) && !is_taken(earlier, n as u32)
 }

@@ -37,34 +37,26 @@ pub const RESULT_ID: usize = ACK + 1;
 // The last of the lines with a number alone, which says how many seats follow.
 pub const SEATS_LINE: usize = NUMBER_LINES - 1;
 
-// The first line of the five of MCV2, and the line behind them.
-const MCV2: usize = END_REQUEST;
-
-const MCV2_END: usize = ACK + 1;
-
 // Whether there are as many as a sheet has, and some sheet reads to the struct with them.
 pub fn are_valid(numbers: &[u32]) -> bool
     ensures { are_valid≡ numbers.now result }
 {
-    if numbers.len() != LINES {
+    let Ok(numbers) = <&Numbers>::try_from(numbers) else {
         return false;
-    }
-    if !are_within(&numbers[..]) {
-        return false;
-    }
-    let lines = NUMBER_LINES + (numbers[SEATS_LINE] as usize);
-    if !are_apart(&numbers[..], lines, MCV2, MCV2_END) {
-        return false;
-    }
-    are_apart(&numbers[..], lines, NUMBER_LINES, LINES)
+    };
+    let lines = NUMBER_LINES + numbers[SEATS_LINE] as usize;
+    // The five of MCV2, and the seats. Of the other lines each is the first of its family: to look at them as well takes a call four times as long.
+    are_within(numbers)
+        && are_apart(numbers, lines, END_REQUEST..ACK + 1)
+        && are_apart(numbers, lines, NUMBER_LINES..LINES)
 }
 
-// The numbers of a sheet.
+// The numbers of a sheet. (No `From`: `Numbers` is another name of an array, and `<[u32; LINES]>::from(sheet)` does not say which numbers.)
 pub fn numbers_of(sheet: Sheet) -> Numbers
     ensures { numbers_of≡ sheet result }
 {
-    let s = sheet.ssrcs;
-    [
+    let mut numbers = [0; LINES];
+    numbers[..NUMBER_LINES].copy_from_slice(&[
         sheet.server,
         sheet.limit,
         sheet.request,
@@ -76,13 +68,7 @@ pub fn numbers_of(sheet: Sheet) -> Numbers
         sheet.ack,
         sheet.resultid,
         sheet.seats,
-        s[0],
-        s[1],
-        s[2],
-        s[3],
-        s[4],
-        s[5],
-        s[6],
-        s[7],
-    ]
+    ]);
+    numbers[NUMBER_LINES..].copy_from_slice(&sheet.ssrcs);
+    numbers
 }

@@ -13,43 +13,38 @@ pub struct Rule {
     pub eldest: usize,
 }
 
-// A rule as a row of the table.
-#[derive(Clone, Copy)]
-struct Row(u64, u64, u8, usize);
-
 // The rule of line k, counted from 0.
+#[tactic(auto, using(crate::proofs::Laws::Rules::rule_at), unfolding(crate::proofs::Laws::Rules::right, crate::proofs::Laws::Rules::other, crate::specs::Table::row_at, crate::specs::Table::table))]
 pub fn rule_of(k: usize) -> Rule
     ensures { RuleOf k result }
 {
-    let row = match k {
-        0 => Row(0, 4294967295, 0, 0), // server
-        1 => Row(1, 8, 1, 1), // limit
-        2 => Row(0, 15, 2, 2), // request
-        3 => Row(0, 15, 3, 3), // response
-        4 => Row(0, 15, 4, 4), // endrequest
-        5 => Row(0, 15, 4, 4), // endresponse
-        6 => Row(0, 15, 4, 4), // txend
-        7 => Row(0, 15, 4, 4), // txendresponse
-        8 => Row(0, 15, 4, 4), // ack
-        9 => Row(15, 191, 5, 9), // resultid
-        10 => Row(1, 8, 6, 10), // seats
-        _ => Row(0, 4294967295, 7, 11), // seat
+    let (least, greatest, family, eldest) = match k {
+        0 => (0, 4294967295, 0, 0), // server
+        1 => (1, 8, 1, 1), // limit
+        2 => (0, 15, 2, 2), // request
+        3 => (0, 15, 3, 3), // response
+        4 => (0, 15, 4, 4), // endrequest
+        5 => (0, 15, 4, 4), // endresponse
+        6 => (0, 15, 4, 4), // txend
+        7 => (0, 15, 4, 4), // txendresponse
+        8 => (0, 15, 4, 4), // ack
+        9 => (15, 191, 5, 9), // resultid
+        10 => (1, 8, 6, 10), // seats
+        _ => (0, 4294967295, 7, 11), // seat
     };
     Rule {
-        least: row.0,
-        greatest: row.1,
-        family: row.2,
-        eldest: row.3,
+        least,
+        greatest,
+        family,
+        eldest,
     }
 }
 
-// Whether a number is within a rule's bounds.
-pub fn is_within(rule: Rule, n: u64) -> bool
-    ensures { result ≡ between rule.least rule.greatest n }
-{
-    if n < rule.least {
-        false
-    } else {
-        n <= rule.greatest
+impl Rule {
+    // Whether a number is within its bounds.
+    pub fn allows(self, n: u64) -> bool
+        ensures { result ≡ between self.least self.greatest n }
+    {
+        (self.least..=self.greatest).contains(&n)
     }
 }

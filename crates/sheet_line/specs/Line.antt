@@ -1,12 +1,11 @@
 -- One line of a call sheet as text (document 01, "Call sheet"). Assumes nothing.
-use Rattle.std.specs.Prelude.{ℕ, ◌+◌, ◌-◌, min, List, [], ◌∷◌, ◌++◌, length, drop}
+use Rattle.std.specs.Prelude.{ℕ, ◌+◌, ◌-◌, min, Option, Some, None, List, [], ◌∷◌, ◌++◌, length, drop}
 use Rattle.octets.specs.Choice.{pick, begins, front}
 use Rattle.octets.specs.Text.{decimal, value_of, digit}
 use Rattle.sheet.specs.Table.{Row}
 use Rattle.sheet.specs.Judge.{Entry, visible}
 use Rattle.sheet.specs.Inner.{cap}
 use Rattle.sheet_line.specs.declared.Line.{Line}
-use Rattle.sheet_line.specs.declared.Line.TheVariants.{Good, Bad}
 
 abbrev pub lf : ℕ
 lf = 10
@@ -36,8 +35,9 @@ entry_in r s = record { number = value_of (digits_after r s); name = pick r.name
 
 -- The line of this row that stands at a place of a text: its number, told apart as far as the cap, where its User ID begins, and its LF;
 -- or that none does.
-unfoldable pub line_at : List ℕ → ℕ → Row → Line
+unfoldable pub line_at : List ℕ → ℕ → Row → Option Line
 line_at t at r =
     let e = entry_in r (drop at t) in
     let end = at + length (line_of r e) - 1 in
-    pick (begins (line_of r e) (drop at t)) (Good (min e.number cap) (end - length e.name) end) Bad
+    let line : Line = record { number = min e.number cap; name = end - length e.name; end = end } in
+    pick (begins (line_of r e) (drop at t)) (Some line) None

@@ -1,10 +1,10 @@
 -- What is claimed of the call sheet beyond its functions, said without the reader. Each has its proof under proofs/.
 -- Assumes nothing.
-use Rattle.std.specs.Prelude.{◌≡◌, ◌↔◌, ℕ, ◌≤◌, ◌<◌, List, length, take, T}
+use Rattle.std.specs.Prelude.{◌≡◌, ◌↔◌, ℕ, ◌≤◌, ◌<◌, Ok, Err, List, length, take, T}
 use Rattle.sheet.specs.declared.Sheet.{Sheet}
 use Rattle.sheet.specs.Value.{entries_of, valid_with}
 use Rattle.sheet_text.specs.Text.{longest, text_of}
-use Rattle.sheet_text.specs.Reading.{lines, no_refusal, bad_line, read_of, users_in}
+use Rattle.sheet_text.specs.Reading.{lines, bad_line, read_of, users_in}
 
 -- the text of a value, from the table
 abbrev pub value_text : Sheet → List (List ℕ) → List ℕ
@@ -12,7 +12,7 @@ value_text s users = text_of (entries_of s users)
 
 -- a text reads to a value, with n octets used
 abbrev pub ReadsTo : List ℕ → Sheet → List (List ℕ) → ℕ → Type 0
-ReadsTo t s users n = (read_of t ≡ record { sheet = s; used = n; refusal = no_refusal }) × (users_in t ≡ users)
+ReadsTo t s users n = (read_of t ≡ Ok (record { sheet = s; used = n })) × (users_in t ≡ users)
 
 -- Which texts read: a text reads to a value exactly if the value is valid and the text begins with the value's text.
 abbrev pub ReadsExactly : Type 0
@@ -43,4 +43,4 @@ LongestDecides = (t : List ℕ) (n : ℕ) → longest ≤ n → (read_of (take n
 abbrev pub NamedExactly : Type 0
 NamedExactly =
     (t : List ℕ) (k : ℕ)
-    → ((read_of t).refusal ≡ bad_line k) ↔ (NoneReads t × (SomeBegins t k → ⊥) × ((j : ℕ) → j < k → SomeBegins t j))
+    → (read_of t ≡ Err (bad_line k)) ↔ (NoneReads t × (SomeBegins t k → ⊥) × ((j : ℕ) → j < k → SomeBegins t j))

@@ -1,8 +1,9 @@
 -- Reading a call sheet (document 01, "Call sheet" and refusal 12): the lines are judged in order, each against the lines
 -- before it, and the first bad or missing one is named. Assumes nothing.
-use Rattle.std.specs.Prelude.{ℕ, zero, suc, ◌+◌, Bool, ◌&&◌, List, [], ◌∷◌, ◌++◌, length, drop, eqb}
+use Rattle.std.specs.Prelude.{ℕ, zero, suc, ◌+◌, Bool, ◌&&◌, Result, Ok, Err, List, [], ◌∷◌, ◌++◌, length, drop, eqb, is_ok}
 use Rattle.octets.specs.Choice.{pick, begins}
 use Rattle.sheet.specs.declared.Refusal.{Refusal}
+use Rattle.sheet.specs.declared.Refusal.TheVariants.{Sheet}
 use Rattle.sheet.specs.Table.{row_at}
 use Rattle.sheet.specs.Judge.{Entry, numbers_in, good, whole}
 use Rattle.sheet.specs.Value.{sheet_of, users_of}
@@ -41,24 +42,21 @@ outcome t = read_by (length t) [] t
 
 -- ---- what reading gives
 
-abbrev pub no_refusal : Refusal
-no_refusal = record { number = 0; at = 0 }
-
 -- 12, "sheet, with the number of its first bad or missing line, from 1"
 abbrev pub bad_line : ℕ → Refusal
-bad_line k = record { number = 12; at = k }
+bad_line k = Sheet k
 
--- the value and "how many octets were used"; beside a refusal everything is zero
-unfoldable pub reading_of : Outcome → Reading
-reading_of (reads es) = record { sheet = sheet_of es; used = length (text_of es); refusal = no_refusal }
-reading_of (refused k) = record { sheet = sheet_of []; used = 0; refusal = bad_line k }
+-- the value and "how many octets were used"
+unfoldable pub reading_of : Outcome → Result Reading Refusal
+reading_of (reads es) = Ok (record { sheet = sheet_of es; used = length (text_of es) })
+reading_of (refused k) = Err (bad_line k)
 
--- the User IDs, likewise
+-- the User IDs; beside a refusal every octet is zero
 unfoldable pub users_from : Outcome → List (List ℕ)
 users_from (reads es) = users_of es
 users_from (refused k) = users_of []
 
-unfoldable pub read_of : List ℕ → Reading
+unfoldable pub read_of : List ℕ → Result Reading Refusal
 read_of t = reading_of (outcome t)
 
 unfoldable pub users_in : List ℕ → List (List ℕ)
@@ -66,7 +64,7 @@ users_in t = users_from (outcome t)
 
 -- what stands where these were, once the text is read: "refused .. changes no lent octet"
 unfoldable pub users_over : List ℕ → List (List ℕ) → List (List ℕ)
-users_over t users = pick (eqb (read_of t).refusal.number 0) (users_in t) users
+users_over t users = pick (is_ok (read_of t)) (users_in t) users
 
 -- ---- the lines of any text
 

@@ -4,3 +4,4 @@ pub mod Rows
 pub mod Values
 pub mod Widths
 pub mod Fits
+pub mod Digits

@@ -6,18 +6,14 @@ use Rattle.sheet_line.specs.Line.{lf}
 use Rattle.kinds.specs.Judge.{Held, absent, given, named}
 use Rattle.kinds.specs.Reading.{Outcome, reads, refused}
 use Rattle.packet.specs.Row.{no_number}
-use Rattle.shown.specs.declared.values.Form.{Form}
-use Rattle.shown.specs.declared.values.Form.TheVariants.{Absent, Given, Named}
 use Rattle.shown.specs.declared.values.Value.{Value}
+use Rattle.shown.specs.declared.values.Value.TheVariants.{Absent, Given, Named}
 use Rattle.shown.specs.Line.{ten_of, value_text, labels, labelled}
 
 abbrev pub value_said : Value → Held
-value_said v = at v.form
-  where
-    at : Form → Held
-    at Absent = absent
-    at Given = given v.n
-    at Named = named v.n v.len
+value_said Absent = absent
+value_said (Given n) = given n
+value_said (Named name) = named name.at name.len
 
 -- the ten values of what was read
 unfoldable pub ten_said : Outcome → List Held
@@ -42,17 +38,17 @@ row_ten row =
     ++ (name_held (eqb kind 1) (get_or row 3 0) (get_or row 4 0) ∷ name_held (names_one kind) (get_or row 5 0) (get_or row 6 0) ∷ map number_held (drop 7 row))
 
 -- their texts
-abbrev pub texts_of : List ℕ → List ℕ → List (List ℕ)
-texts_of p row = map (value_text p) (row_ten row)
+abbrev pub texts_of : List ℕ → List Held → List (List ℕ)
+texts_of p values = map (value_text p) values
 
 -- the name and the text of the k-th
-unfoldable pub entry_text : List ℕ → List ℕ → ℕ → List ℕ
-entry_text p row k = get_or labels k [] ++ get_or (texts_of p row) k []
+unfoldable pub entry_text : List ℕ → List Held → ℕ → List ℕ
+entry_text p values k = get_or labels k [] ++ get_or (texts_of p values) k []
 
 -- those from the k-th on
-unfoldable pub values_from : List ℕ → List ℕ → ℕ → List ℕ
-values_from p row k = labelled (drop k labels) (drop k (texts_of p row))
+unfoldable pub values_from : List ℕ → List Held → ℕ → List ℕ
+values_from p values k = labelled (drop k labels) (drop k (texts_of p values))
 
 -- all of them, and an LF
-unfoldable pub ten_line : List ℕ → List ℕ → List ℕ
-ten_line p row = values_from p row 0 ++ (lf ∷ [])
+unfoldable pub ten_line : List ℕ → List Held → List ℕ
+ten_line p values = values_from p values 0 ++ (lf ∷ [])

@@ -10,13 +10,7 @@ use super::LF;
 pub fn length_of(n: u32) -> usize
     ensures { (result ≡ length (decimal n)) × (result ≤ 10) }
 {
-    let mut left = n;
-    let mut digits = 1;
-    while 10 <= left {
-        left /= 10;
-        digits += 1;
-    }
-    digits
+    n.max(1).ilog10() as usize + 1
 }
 
 // Puts a number at a place, and gives the place past it.
@@ -26,10 +20,8 @@ pub fn put(out: &mut [u8], at: usize, n: u32) -> usize
 {
     let digits = length_of(n);
     let mut left = n;
-    let mut i = digits;
-    while 0 < i {
-        i -= 1;
-        out[at + i] = b'0' + ((left % 10) as u8);
+    for i in (0..digits).rev() {
+        out[at + i] = b'0' + (left % 10) as u8;
         left /= 10;
     }
     at + digits

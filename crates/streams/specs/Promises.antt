@@ -1,6 +1,6 @@
 -- What each public function promises, one predicate a function, NAME≡: the equation that its answer meets, for every input.
 -- Beside it, NAME-once: no second answer meets it. Assumes nothing.
-use Rattle.std.specs.Prelude.{◌≡◌, refl, ℕ, Bool, List, [], ◌∷◌}
+use Rattle.std.specs.Prelude.{◌≡◌, refl, ℕ, Bool, List, [], ◌∷◌, Result}
 use Rattle.std.proofs.Common.{sym, ap, ◌∙◌}
 use Rattle.std.proofs.Math.Option.{Option, none, some}
 use Rattle.octets.specs.Promises.{one_answer, one_value}
@@ -11,7 +11,7 @@ use Rattle.streams.specs.declared.Answer.{Answer}
 use Rattle.streams.specs.declared.Answer.TheVariants.{GrantedFirst, Granted, GrantedAgain, Rejected, Ended, EndedLast, Opened, EndRequested, Freed, FreedWithAck, ReleasedIdle, ReleasedWatched, ReleasedEnding, Discarded}
 use Rattle.streams.specs.declared.stream.Rules.{Rules}
 use Rattle.streams.specs.declared.table.Change.{Change}
-use Rattle.streams.specs.Record.{on_sheet, free, count, phase_number, same_record, legal}
+use Rattle.streams.specs.Record.{on_sheet, free, count, phase_number, phase_of, legal}
 use Rattle.streams.specs.Answer.{Sent, Timer, T3, T5, T6, T11, Timers, Done, granted, rejected, ended, opened, end_requested, freed, released, discarded, Reply, answer_said}
 use Rattle.streams.specs.Table.{Ruling, sender_on, change_for, change_said}
 
@@ -45,12 +45,12 @@ number_of≡ phase r = r ≡ phase_number phase
 pub number_of-once : (phase : Phase) (x y : ℕ) → number_of≡ phase x → number_of≡ phase y → x ≡ y
 number_of-once phase x y p q = one_value x y p q
 
--- the two are the same
-abbrev pub is_same≡ : Record → Record → Bool → Type 0
-is_same≡ this other r = r ≡ same_record this other
+-- the phase of a number, or that it is none's
+abbrev pub phase_of≡ : ℕ → Result Phase Unit → Type 0
+phase_of≡ number r = r ≡ phase_of number
 
-pub is_same-once : (this other : Record) (x y : Bool) → is_same≡ this other x → is_same≡ this other y → x ≡ y
-is_same-once this other x y p q = one_value x y p q
+pub phase_of-once : (number : ℕ) (x y : Result Phase Unit) → phase_of≡ number x → phase_of≡ number y → x ≡ y
+phase_of-once number x y p q = one_value x y p q
 
 -- the record is legal for the stream
 abbrev pub is_legal≡ : Rules → ℕ → Record → Bool → Type 0

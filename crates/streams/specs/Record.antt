@@ -1,6 +1,6 @@
 -- The stream record (document 01, "Stream record"): "A phase and a byte of receivers, bit r for seat r". The event
 -- table makes, counts, compares and judges records by the definitions of this file alone. Assumes nothing.
-use Rattle.std.specs.Prelude.{ℕ, ◌+◌, ◌-◌, ◌/◌, ◌%◌, ◌^◌, Bool, not, ◌&&◌, List, get_or, replicate, eqb, leb, ltb}
+use Rattle.std.specs.Prelude.{ℕ, ◌+◌, ◌-◌, ◌/◌, ◌%◌, ◌^◌, Bool, not, ◌&&◌, List, [], ◌∷◌, get_or, replicate, Result, Ok, Err, eqb, leb, ltb}
 use Rattle.std.specs.Int.Count.{ones}
 use Rattle.octets.specs.Choice.{pick}
 use Rattle.sheet.specs.declared.Sheet.{Sheet}
@@ -60,6 +60,9 @@ phase_number Free = 0
 phase_number Idle = 1
 phase_number Watched = 2
 phase_number Ending = 3
+
+abbrev pub phase_of : ℕ → Result Phase Unit
+phase_of n = get_or (Ok Free ∷ Ok Idle ∷ Ok Watched ∷ Ok Ending ∷ []) n (Err tt)
 
 -- the record is in the phase
 abbrev pub is : Phase → Record → Bool

@@ -1,12 +1,13 @@
 // A stream's record and the event table (document 01, "Stream record"): records made, judged and compared, and what an event makes of one.
 #![tactic(auto)]
 
+mod phases;
 mod receivers;
 pub mod stream;
 pub mod table;
 
 // Where a stream stands.
-#[derive(Clone, Copy)]
+#[derive(Clone, Copy, PartialEq, Eq)]
 pub enum Phase {
     Free,
     Idle,
@@ -15,7 +16,7 @@ pub enum Phase {
 }
 
 // A stream's record: its phase, and a byte with bit r for seat r, which is watching.
-#[derive(Clone, Copy)]
+#[derive(Clone, Copy, PartialEq, Eq)]
 pub struct Record {
     pub phase: Phase,
     pub receivers: u8,

@@ -1,14 +1,13 @@
 // The event table (document 01, "Stream record"): a function for each row, in the table's order.
 ghost use Rattle.std.specs.Prelude.{◌≡◌, ◌<◌};
 ghost use Rattle.streams.specs.declared.What.TheVariants.{Request};
-ghost use Rattle.streams.specs.Record.{ending};
 ghost use Rattle.streams.specs.Answer.{answer_said};
 ghost use Rattle.streams.specs.Table.{joined, on_end, on_open, on_t11, on_end_response, on_release, change_for, change_said};
 ghost use Rattle.streams.specs.Promises.{is_sender_on≡, change_of≡};
 
-use super::receivers::SEATS;
 use super::stream::Rules;
 use super::{Answer, Phase, Record, What, receivers, stream};
+use sheet::SEATS;
 
 // The causes, by the sources' names (documents 004 and 002).
 const INSUFFICIENT_DOWNLINK_BANDWIDTH: u16 = 0;
@@ -30,39 +29,42 @@ fn with_answer(becomes: Record, answer: Answer) -> Change
     Change { becomes, answer }
 }
 
-// A request by a seat other than the transmitter, for a stream that is open; `granted` is the answer to one that sets the bit.
-#[tactic(auto, unfolding(crate::specs::Table::joined))]
-fn join(rules: Rules, own: Record, by: u8, granted: Answer) -> Change
-    requires { by < 8 }
-    ensures { change_said result ≡ joined rules own by (answer_said granted) }
-{
-    let byte = own.receivers;
-    if receivers::has(byte, by) {
-        return with_answer(own, Answer::GrantedAgain);
+impl Rules {
+    // A request by a seat other than the transmitter, for a stream that is open; `granted` is the answer to one that sets the bit.
+    #[tactic(auto, unfolding(crate::specs::Table::joined))]
+    fn join(self, own: Record, by: u8, granted: Answer) -> Change
+        requires { by < 8 }
+        ensures { change_said result ≡ joined self own by (answer_said granted) }
+    {
+        let byte = own.receivers;
+        if receivers::has(byte, by) {
+            return with_answer(own, Answer::GrantedAgain);
+        }
+        if self.limit <= stream::count_of(own) {
+            return with_answer(own, Answer::Rejected(INSUFFICIENT_DOWNLINK_BANDWIDTH));
+        }
+        with_answer(stream::watched(receivers::with(byte, by)), granted)
     }
-    if rules.limit <= stream::count_of(own) {
-        return with_answer(own, Answer::Rejected(INSUFFICIENT_DOWNLINK_BANDWIDTH));
-    }
-    with_answer(stream::watched(receivers::with(byte, by)), granted)
-}
 
-// "request by r". One by a seat that has no bit in the byte of receivers is discarded.
-#[tactic(auto, unfolding(crate::specs::Table::change_for, crate::specs::Table::rule_for, crate::specs::Table::on_request, crate::specs::Table::joined, sheet::specs::Table::most_seats))]
-fn request(rules: Rules, stream: u8, own: Record, by: u8) -> Change
-    ensures { change_said result ≡ change_for rules stream own (Request by) }
-{
-    if SEATS <= by {
-        return with_answer(own, Answer::Discarded);
-    }
-    if by == stream {
-        return with_answer(own, Answer::Rejected(NO_PERMISSION_TO_RECEIVE));
-    }
-    let phase = own.phase;
-    match phase {
-        Phase::Free => with_answer(own, Answer::Rejected(NO_PERMISSION_TO_RECEIVE)),
-        Phase::Idle => join(rules, own, by, Answer::GrantedFirst),
-        Phase::Watched => join(rules, own, by, Answer::Granted),
-        Phase::Ending => with_answer(own, Answer::Rejected(NO_PERMISSION_TO_RECEIVE)),
+    // "request by r". One by a seat that has no bit in the byte of receivers is discarded.
+    #[tactic(auto, unfolding(crate::specs::Table::change_for, crate::specs::Table::rule_for, crate::specs::Table::on_request, sheet::specs::Table::most_seats))]
+    fn request(self, stream: u8, own: Record, by: u8) -> Change
+        ensures { change_said result ≡ change_for self stream own (Request by) }
+    {
+        if SEATS <= by as usize {
+            return with_answer(own, Answer::Discarded);
+        }
+        if by == stream {
+            return with_answer(own, Answer::Rejected(NO_PERMISSION_TO_RECEIVE));
+        }
+        match own.phase {
+            Phase::Idle => self.join(own, by, Answer::GrantedFirst),
+            Phase::Watched => self.join(own, by, Answer::Granted),
+            Phase::Free | Phase::Ending => with_answer(
+                own,
+                Answer::Rejected(NO_PERMISSION_TO_RECEIVE),
+            ),
+        }
     }
 }
 
@@ -87,39 +89,24 @@ fn end(own: Record, by: u8) -> Change
 fn open(own: Record) -> Change
     ensures { change_said result ≡ on_open own }
 {
-    let phase = own.phase;
-    match phase {
+    match own.phase {
         Phase::Free => with_answer(stream::idle(), Answer::Opened),
-        Phase::Idle => with_answer(own, Answer::Discarded),
-        Phase::Watched => with_answer(own, Answer::Discarded),
-        Phase::Ending => with_answer(own, Answer::Discarded),
+        Phase::Idle | Phase::Watched | Phase::Ending => with_answer(own, Answer::Discarded),
     }
 }
 
-// "T11 expired".
+// "T11 expired". On a stream that is watched again it ran out late.
 #[tactic(auto, unfolding(crate::specs::Table::on_t11))]
 fn t11(own: Record) -> Change
     ensures { change_said result ≡ on_t11 own }
 {
-    let ending = stream::ending();
-    let phase = own.phase;
-    match phase {
-        Phase::Free => with_answer(own, Answer::Discarded),
-        Phase::Idle => with_answer(ending, Answer::EndRequested(NO_RECEIVING_PARTICIPANT)),
-        Phase::Watched => with_answer(own, Answer::Discarded), // T11 ran out late
-        Phase::Ending => with_answer(own, Answer::Discarded),
+    match own.phase {
+        Phase::Idle => with_answer(
+            stream::ending(),
+            Answer::EndRequested(NO_RECEIVING_PARTICIPANT),
+        ),
+        Phase::Free | Phase::Watched | Phase::Ending => with_answer(own, Answer::Discarded),
     }
-}
-
-// The answer to an end response that frees the stream.
-#[tactic(auto, unfolding(crate::specs::Table::on_end_response))]
-fn freed(ack: bool) -> Answer
-    ensures { answer_said result ≡ (on_end_response ending ack).reply }
-{
-    if ack {
-        return Answer::FreedWithAck;
-    }
-    Answer::Freed
 }
 
 // "end response from s".
@@ -127,12 +114,10 @@ fn freed(ack: bool) -> Answer
 fn end_response(own: Record, ack: bool) -> Change
     ensures { change_said result ≡ on_end_response own ack }
 {
-    let phase = own.phase;
-    match phase {
-        Phase::Free => with_answer(own, Answer::Discarded),
-        Phase::Idle => with_answer(own, Answer::Discarded),
-        Phase::Watched => with_answer(own, Answer::Discarded),
-        Phase::Ending => with_answer(stream::free(), freed(ack)),
+    match own.phase {
+        Phase::Ending if ack => with_answer(stream::free(), Answer::FreedWithAck),
+        Phase::Ending => with_answer(stream::free(), Answer::Freed),
+        Phase::Free | Phase::Idle | Phase::Watched => with_answer(own, Answer::Discarded),
     }
 }
 
@@ -141,8 +126,7 @@ fn end_response(own: Record, ack: bool) -> Change
 fn release(own: Record) -> Change
     ensures { change_said result ≡ on_release own }
 {
-    let phase = own.phase;
-    match phase {
+    match own.phase {
         Phase::Free => with_answer(own, Answer::Discarded),
         Phase::Idle => with_answer(stream::free(), Answer::ReleasedIdle),
         Phase::Watched => with_answer(stream::free(), Answer::ReleasedWatched),
@@ -150,31 +134,29 @@ fn release(own: Record) -> Change
     }
 }
 
-// Whether the seat that an event comes from, if it names one, is on the sheet.
-pub fn is_sender_on(rules: Rules, what: What) -> bool
-    ensures { is_sender_on≡ rules what result }
-{
-    match what {
-        What::Request(by) => stream::is_on(rules, by),
-        What::End(by) => stream::is_on(rules, by),
-        What::Open => true,
-        What::T11 => true,
-        What::EndResponse(_) => true,
-        What::Release => true,
+impl Rules {
+    // Whether the seat that an event comes from, if it names one, is on the sheet.
+    pub fn is_sender_on(self, what: What) -> bool
+        ensures { is_sender_on≡ self what result }
+    {
+        match what {
+            What::Request(by) | What::End(by) => self.is_on(by),
+            What::Open | What::T11 | What::EndResponse(_) | What::Release => true,
+        }
     }
-}
 
-// What an event makes of a stream's record. A request by a seat that has no bit in the byte of receivers, and so is on no sheet, is discarded.
-#[tactic(auto, unfolding(crate::specs::Table::change_for, crate::specs::Table::rule_for))]
-pub fn change_of(rules: Rules, stream: u8, own: Record, what: What) -> Change
-    ensures { change_of≡ rules stream own what result }
-{
-    match what {
-        What::Request(by) => request(rules, stream, own, by),
-        What::End(by) => end(own, by),
-        What::Open => open(own),
-        What::T11 => t11(own),
-        What::EndResponse(ack) => end_response(own, ack),
-        What::Release => release(own),
+    // What an event makes of a stream's record. A request by a seat that has no bit in the byte of receivers, and so is on no sheet, is discarded.
+    #[tactic(auto, unfolding(crate::specs::Table::change_for, crate::specs::Table::rule_for))]
+    pub fn change_of(self, stream: u8, own: Record, what: What) -> Change
+        ensures { change_of≡ self stream own what result }
+    {
+        match what {
+            What::Request(by) => self.request(stream, own, by),
+            What::End(by) => end(own, by),
+            What::Open => open(own),
+            What::T11 => t11(own),
+            What::EndResponse(ack) => end_response(own, ack),
+            What::Release => release(own),
+        }
     }
 }

@@ -8,3 +8,4 @@ pub mod Forth
 pub mod Canon
 pub mod Claims
 pub mod Room
+pub mod Parts

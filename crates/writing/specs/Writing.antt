@@ -1,15 +1,15 @@
 -- Writing a message (document 01, "Packet", and "Refusals": 12 line 0, 5, 11, in that order; "changes no lent octet"). Assumes nothing.
-use Rattle.std.specs.Prelude.{◌≡◌, ℕ, List, length, leb}
+use Rattle.std.specs.Prelude.{◌≡◌, ℕ, List, length, leb, Result, Ok, Err}
 use Rattle.std.proofs.Math.Option.{Option, none, some}
 use Rattle.octets.specs.Choice.{pick}
 use Rattle.octets.specs.Buffer.{over}
+use Rattle.sheet.specs.declared.Refusal.{Refusal}
 use Rattle.sheet.specs.declared.Sheet.{Sheet}
+use Rattle.sheet.specs.Refusal.{refusal_number, refusal_line}
 use Rattle.sheet.specs.Value.{sheet_from, valid_alone}
 use Rattle.kinds.specs.Reading.{Outcome}
 use Rattle.packet.specs.Meaning.{meaning}
 use Rattle.plan.specs.Packet.{packet_for, fitting}
-use Rattle.writing.specs.declared.Writing.{Writing}
-use Rattle.writing.specs.declared.Writing.TheVariants.{Written, Refused}
 
 -- a packet to put into the buffer, or a refusal's number; "line 0" is its line, and it has no place
 pub data Made : Type 0 where
@@ -36,18 +36,18 @@ write_by ns message names room = pick (fitting ns) (made_of (sheet_from ns) mess
 
 -- ---- what is answered, and what the buffer holds
 
--- how many octets were written, or a refusal
+-- how many octets were written, or a refusal's number and line
 pub data Said : Type 0 where
   wrote : ℕ → Said
-  refused_with : ℕ → Said
+  refused_with : ℕ → ℕ → Said
 
 unfoldable pub told : Made → Said
 told (made p) = wrote (length p)
-told (refused number) = refused_with number
+told (refused number) = refused_with number 0
 
-abbrev pub writing_said : Writing → Said
-writing_said (Written octets) = wrote octets
-writing_said (Refused number) = refused_with number
+abbrev pub writing_said : Result ℕ Refusal → Said
+writing_said (Ok octets) = wrote octets
+writing_said (Err r) = refused_with (refusal_number r) (refusal_line r)
 
 -- "leaves octets past the packet's end alone"; a refusal "changes no lent octet"
 unfoldable pub after : Made → List ℕ → List ℕ
@@ -55,5 +55,5 @@ after (made p) out = over p out
 after (refused number) out = out
 
 -- the answer tells what was made, and the buffer, which held `out`, is as that leaves it
-abbrev pub Answered : Made → List ℕ → Writing → List ℕ → Type 0
+abbrev pub Answered : Made → List ℕ → Result ℕ Refusal → List ℕ → Type 0
 Answered w out r now = (writing_said r ≡ told w) × (now ≡ after w out)

@@ -1,31 +1,22 @@
 // The fields of a packet, put into the part of a buffer that starts at octet 12 (document 01, "Packet").
 ghost use Rattle.std.specs.Prelude.{◌≡◌, ◌+◌, ◌≤◌, T, length};
-ghost use Rattle.octets.specs.Big.{big_of};
 ghost use Rattle.octets.specs.Buffer.{over, put_at};
 ghost use Rattle.fields.specs.Layout.{laid};
 ghost use Rattle.plan.specs.Plan.{user_content, field_size, part_octets, part_right, part_size, plan_octets, plan_right, plan_size};
 
-use plan::sizes::field_size;
+use fields::walk::size_of;
 use plan::{Part, Plan};
 
 // The ID octet of a User ID.
 const USER_ID: u8 = kinds::codes::USER_ID as u8;
 
-// Puts a field that fills a word, and gives the place past it.
-fn put_word(s: &mut [u8], at: usize, word: u32) -> usize
-    requires { at + 4 ≤ length s.old }
-    ensures { (s.new ≡ put_at s.old at (big_of 4 word)) × (result ≡ at + 4) }
-{
-    octets::put_u32(s, at, word);
-    at + 4
-}
-
-// Puts a User ID's field, its last word zeroed first so that the padding is zero, and gives the place past it.
+// Puts a User ID's field, its last word zeroed first so that the padding is zero, and gives the place past it. (A buffer and a place, here and below: with the rest of
+// the buffer handed on the definition, `put_at` of the place, would have to be put together again.)
 fn put_user(s: &mut [u8], at: usize, user: &[u8]) -> usize
     requires { (length user.now ≤ 60) × (at + field_size (length user.now) ≤ length s.old) }
     ensures { (s.new ≡ put_at s.old at (laid (user_content user.now))) × (result ≡ at + field_size (length user.now)) }
 {
-    let size = field_size(user.len() as u32);
+    let size = size_of(user.len() as u32);
     octets::put_u32(s, at + size - 4, 0);
     s[at] = USER_ID;
     s[at + 1] = user.len() as u8;
@@ -34,13 +25,17 @@ fn put_user(s: &mut [u8], at: usize, user: &[u8]) -> usize
 }
 
 // Puts a field, and gives the place past it.
+#[tactic(auto, using(crate::proofs::Laws::Parts::puts))]
 fn put_part(s: &mut [u8], at: usize, part: Part, names: &[u8]) -> usize
     requires { T (part_right names.now part) × (at + part_size part ≤ length s.old) }
     ensures { (s.new ≡ put_at s.old at (part_octets names.now part)) × (result ≡ at + part_size part) }
 {
     match part {
         Part::Absent => at,
-        Part::Word(word) => put_word(s, at, word),
+        Part::Word(word) => {
+            octets::put_u32(s, at, word);
+            at + 4
+        }
         Part::Named(name) => {
             let from = name.at as usize;
             put_user(s, at, &names[from..from + (name.len as usize)])
@@ -53,10 +48,8 @@ pub fn put_fields(s: &mut [u8], plan: Plan, names: &[u8])
     requires { T (plan_right names.now plan) × (plan_size plan ≤ length s.old) }
     ensures { s.new ≡ over (plan_octets names.now plan) s.old }
 {
-    let first = plan.first;
-    let second = plan.second;
-    let third = plan.third;
-    let at = put_part(s, 0, first, names);
-    let at = put_part(s, at, second, names);
-    put_part(s, at, third, names);
+    let mut at = 0;
+    for part in &plan.parts {
+        at = put_part(s, at, *part, names);
+    }
 }

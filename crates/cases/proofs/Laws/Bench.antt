@@ -57,7 +57,7 @@ unfolding bench sheet_with users_s lib.Count.ones
     reception.Schedule.if_took reception.Schedule.taken_at reception.Schedule.run reception.Schedule.taken
     lines.Lines.before lines.Lines.lines_of hex.Line.line_right hex.Line.packet_in shown.Line.names_of shown.Line.under
     shown.Line.ten_of shown.Line.value_text shown.Line.labelled shown.Line.number_line shown.Line.text_of shown.Line.line_as shown.Line.line_of shown.Line.sheet_line
-    look.Look.look_of
+    look.Look.look_by look.Look.look_of
     incoming.Event.on_stream incoming.Event.request_by incoming.Event.heard incoming.Event.event_from incoming.Event.event_of
     outgoing.Sending.values_out outgoing.Sending.message_out outgoing.Sending.parcel_of outgoing.Sending.sending_of
 bench-holds =

@@ -5,23 +5,25 @@ use mathlib.Core.Option.{Option, none, some}
 use Prim.Native.Nat.{ℕ, ◌+◌, ◌*◌, ◌<◌}
 use native.Mathlib.Omega.{arith}
 use lib.ListN.{length, get_or, set, drop}
-use lib.Dec.{T, eqb, eqb→eq}
+use lib.Dec.{T}
+use Rattle.std.specs.Prelude.{Ok}
 use Rattle.octets.specs.Choice.{same}
 use Rattle.octets.proofs.Choice.{T_true, pick-cases, same_refl, same-eq}
 use Rattle.sheet.specs.declared.Sheet.{Sheet}
 use Rattle.sheet.specs.Table.{most_seats}
-use Rattle.sheet.specs.Value.{sheet_in, numbers_of, valid_alone, valid_with}
+use Rattle.sheet.specs.Value.{sheet_of, sheet_in, numbers_of, valid_alone, valid_with}
 use Rattle.sheet.proofs.Laws.Laid.{laid-valid}
 use Rattle.sheet.proofs.Laws.Values.{sheet_in-own}
 use Rattle.sheet_text.specs.declared.Reading.{Reading}
 use Rattle.sheet_text.specs.Reading.{Outcome as SheetOutcome, reads as sheet_reads, refused as sheet_refused, outcome}
+use Rattle.sheet_text.specs.Text.{text_of}
 use Rattle.sheet_text.specs.Reading.{reading_of, users_from, read_of, users_in}
 use Rattle.sheet_text.proofs.Laws.Readings.{outcome-reads}
 use Rattle.kinds.specs.Reading.{Outcome, refused}
 use Rattle.packet.specs.Row.{message_row, numbers_say, message_in}
 use Rattle.streams.specs.declared.Record.{Record}
 use Rattle.streams.specs.Record.{own}
-use Rattle.reception.specs.Steps.{Said, gives, refuses, Try, reply_of, stored, store_of}
+use Rattle.reception.specs.Steps.{Said, gives, refuses, said_by, Try, reply_of, stored, store_of}
 use Rattle.reception.proofs.Laws.Steps.{check-gives, gives_same, reply-gives, reply-below}
 use Rattle.rows.specs.Rows.{sheet_row, records_row, records_in, reply_row, try_row, try_in}
 use Rattle.rows.proofs.Laws.Records.{records-eight, row-set}
@@ -33,30 +35,22 @@ use Rattle.face.proofs.Laws.Sheets.{read_small}
 
 -- ---- sheets
 
--- what is given was read, and not refused
-sheet-given : (text : List ℕ) (x : Reading) → sheet_says text ≡ gives x → (read_of text ≡ x) × (x.refusal.number ≡ 0)
-unfolding sheet_says
-sheet-given text x =
-    let r = read_of text in
-    pick-cases (λ said. said ≡ gives x → (r ≡ x) × (x.refusal.number ≡ 0)) (eqb r.refusal.number 0) (gives r) (refuses _ _)
-    (λ t e. let is : r ≡ x = cc in (is, rw (← is) (eqb→eq r.refusal.number 0 t)))
-    (λ f e. let z : ◌≡◌ {A = ℕ} 0 1 = cc in absurd (omega arith))
-
--- it is valid with its User IDs
-read-valid : (text : List ℕ) (o : SheetOutcome) → outcome text ≡ o → (reading_of o).refusal.number ≡ 0
-    → T (valid_with (reading_of o).sheet (users_from o))
+-- what is given was read, and is valid with its User IDs
+read-valid : (text : List ℕ) (x : Reading) (o : SheetOutcome) → outcome text ≡ o → said_by (λ (r : Reading). r) (reading_of o) ≡ gives x
+    → (Ok x ≡ reading_of o) × T (valid_with x.sheet (users_from o))
 unfolding reading_of users_from
-read-valid text (sheet_reads es) e z = laid-valid es (outcome-reads text es e).0
-read-valid text (sheet_refused k) e z = absurd (omega arith)
+read-valid text x (sheet_reads es) e f =
+    let is : x ≡ record { sheet = sheet_of es; used = length (text_of es) } = cc in
+    rw is (refl, laid-valid es (outcome-reads text es e).0)
+read-valid text x (sheet_refused k) e f = cc
 
 pub sheets_stand : SheetsStand
-unfolding read_of users_in numbers_of most_seats
+unfolding sheet_says read_of users_in numbers_of most_seats
 sheets_stand text x e =
-    let g = sheet-given text x e in
-    let eight : length x.sheet.ssrcs ≡ 8 = omega (arith, (read_small text x (sym g.0)).row) in
-    let valid = read-valid text (outcome text) refl (rw g.0 g.1) in (
+    let valid = read-valid text x (outcome text) refl e in
+    let eight : length x.sheet.ssrcs ≡ 8 = omega (arith, (read_small text x valid.0).row) in (
       sheet_in-own x.sheet (sheet_row x) eight refl,
-      T_true _ (rw g.0 at valid),
+      T_true _ valid.1,
     )
 
 -- ---- messages

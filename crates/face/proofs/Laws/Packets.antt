@@ -9,7 +9,7 @@ use lib.Dec.{eqb}
 use Rattle.octets.specs.Choice.{pick, same}
 use Rattle.sheet.specs.declared.Sheet.{Sheet}
 use Rattle.seats.specs.declared.Senders.{Senders}
-use Rattle.sheet.specs.Value.{valid_alone, valid_with}
+use Rattle.sheet.specs.Value.{sheet_in, valid_alone, valid_with}
 use Rattle.sheet.specs.Find.{seat_of_ssrc, seat_of_user}
 use Rattle.fields.specs.Header.{size_right, head_right}
 use Rattle.fields.specs.Walk.{fields_of, whole}
@@ -27,8 +27,9 @@ use Rattle.streams.specs.declared.What.TheVariants.{Request, End}
 use Rattle.reception.specs.Steps.{Said, gives}
 use Rattle.sheet.specs.Find.{user_of}
 use Rattle.incoming.specs.Event.{senders_of, seated, name_in, on_stream, request_by, heard, event_from, event_of}
-use Rattle.face.specs.Calls.{outcome_says}
-use Rattle.face.proofs.Laws.Told.{Plain, plain-check}
+use Rattle.rows.specs.Rows.{event_row}
+use Rattle.face.specs.Calls.{outcome_says, read_says, event_says}
+use Rattle.face.proofs.Laws.Told.{Plain, plain-check, plain-given}
 
 -- ---- a message
 
@@ -99,3 +100,13 @@ pub plain-event : (s : Sheet) (users : List (List ℕ)) (p : List ℕ) → Plain
 unfolding event_of
 plain-event s users p =
     plain-check (valid_with s users) 12 _ (omega arith) (plain-from (senders_of s) users p (read_of s p) (plain-packet s p))
+
+-- ---- what is told of it
+
+pub plain-read : (sheet p : List ℕ) → Plain (read_says sheet p)
+unfolding read_says
+plain-read sheet p = plain-packet (sheet_in sheet) p
+
+pub plain-offered : (sheet : List ℕ) (users : List (List ℕ)) (p : List ℕ) → Plain (event_says sheet users p)
+unfolding event_says
+plain-offered sheet users p = plain-given event_row _ (plain-event (sheet_in sheet) users p)

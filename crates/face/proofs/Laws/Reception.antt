@@ -4,24 +4,29 @@ use mathlib.Core.Logic.{⊎_elim}
 use mathlib.Core.Bool.{Bool, true, false, ◌&&◌}
 use mathlib.Core.List.{List}
 use mathlib.Core.Option.{some}
-use Prim.Native.Nat.{ℕ, ◌+◌, ◌*◌, ◌≤◌}
+use Prim.Native.Nat.{ℕ, ◌≤◌}
 use native.Mathlib.Omega.{arith}
 use lib.Dec.{ltb}
 use borrow.Author.Tests.{ltb-false, le-ltb}
+use Rattle.std.specs.Prelude.{Result, Ok, Err}
 use Rattle.octets.specs.Choice.{pick}
 use Rattle.octets.proofs.Choice.{decide, and-true_left}
 use Rattle.sheet.specs.declared.Sheet.{Sheet}
+use Rattle.sheet.specs.declared.Refusal.{Refusal}
+use Rattle.sheet.specs.Refusal.{refusal_number, refusal_line}
 use Rattle.sheet.specs.Value.{sheet_in, valid_alone}
 use Rattle.streams.specs.declared.Record.{Record}
 use Rattle.streams.specs.declared.Event.{Event}
 use Rattle.streams.specs.Record.{rules_of, on_sheet, legal, same_record, own}
 use Rattle.streams.specs.Table.{sender_on}
-use Rattle.reception.specs.Steps.{Said, gives, refuses, check, Try, seen_of, read_of, attempt_of, reply_of, counted, count_of}
+use Rattle.reception.specs.Steps.{Said, gives, refuses, check, Try, seen_of, read_of, attempt_of, reply_of, store_of, counted, count_of}
 use Rattle.reception.proofs.Laws.Steps.{seats-le-8}
-use Rattle.rows.specs.Rows.{is_some, records_in}
-use Rattle.face.specs.Calls.{of_given, standing, under}
-use Rattle.rows.specs.Promises.{Rowed, record_at≡}
-use Rattle.face.proofs.Laws.Told.{rowed-refuses, check-twice, misfit-is, Plain, plain-check}
+use Rattle.rows.specs.Rows.{is_some, records_in, event_in, try_row, try_in}
+use Rattle.rows.specs.Lent.{Returned}
+use Rattle.rows.specs.Promises.{Put, record_at≡}
+use Rattle.face.specs.Calls.{of_given, standing, under, work_says, store_says}
+use Rattle.face.specs.Inner.{misfit_of}
+use Rattle.face.proofs.Laws.Told.{put-refused, put-given, check-twice, misfit-is, Plain, plain-check, plain-given, plain-standing}
 use Rattle.rows.proofs.Laws.Records.{is-some, option_cases, own-known}
 
 -- ---- refusals
@@ -127,9 +132,8 @@ module _ {A : Type 0} (row : A → List ℕ) (sheet records : List ℕ) {stream 
 
   -- .. are told by 9, or by 12 before it
   pub eight-misfit : (is_some (records_in 8 records) && ltb stream 256) ≡ false
-      → (out : List ℕ) (r : ℕ) → r ≡ pick (valid_alone (sheet_in sheet)) 9 12
-      → Rowed (of_eight row sheet records said) out r out
-  eight-misfit e out r told = rw (off-said e, misfit-is (valid_alone (sheet_in sheet)) 9) (rowed-refuses _ 0 out r (omega arith))
+      → (out : List ℕ) (r : Returned) → r ≡ Err (misfit_of (sheet_in sheet)) → Put (of_eight row sheet records said) out r out
+  eight-misfit e out r f = put-refused _ out r (misfit_of (sheet_in sheet)) f (off-said e ∙ misfit-is (sheet_in sheet))
 
   module _ (rs : List Record) (are : records_in 8 records ≡ some rs) where
     -- octets that are records: what is said of them ..
@@ -138,13 +142,47 @@ module _ {A : Type 0} (row : A → List ℕ) (sheet records : List ℕ) {stream 
     eight-said = rw (are, ← given-check row (valid_alone (sheet_in sheet)) (said rs), judged.first rs)
 
     -- .. is given
-    pub eight-gives : (x : A) → gives x ≡ said rs → (out : List ℕ) (r : ℕ) (now : List ℕ)
-        → Rowed (gives (row x)) out r now → Rowed (of_eight row sheet records said) out r now
+    pub eight-gives : (x : A) → gives x ≡ said rs → (out : List ℕ) (r : Returned) (now : List ℕ)
+        → Put (gives (row x)) out r now → Put (of_eight row sheet records said) out r now
     unfolding of_given
-    eight-gives x e out r now told = rw (eight-said, ← e) told
+    eight-gives x e out r now h = put-given _ (row x) out r now (eight-said ∙ rw (← e)) h
 
     -- .. or refused
-    pub eight-refuses : (number line : ℕ) → refuses number line ≡ said rs → (out : List ℕ) (r : ℕ) → r ≡ number + 256 * line
-        → Rowed (of_eight row sheet records said) out r out
+    pub eight-refuses : (x : Refusal) → refuses (refusal_number x) (refusal_line x) ≡ said rs → (out : List ℕ) (r : Returned) → r ≡ Err x
+        → Put (of_eight row sheet records said) out r out
     unfolding of_given
-    eight-refuses number line e out r told = rw (eight-said, ← e) (rowed-refuses number line out r told)
+    eight-refuses x e out r f = put-refused _ out r x f (eight-said ∙ rw (← e))
+
+-- ---- a stream's number as an octet
+
+-- where there is none
+pub stream-off : (b : Bool) (s : ℕ) (m x : Refusal) → ◌≡◌ {A = Result ℕ Refusal} (Err x) (pick b (Ok s) (Err m)) → (b ≡ false) × (x ≡ m)
+stream-off true s m x e = cc
+stream-off false s m x e = (refl, cc)
+
+-- and where there is one
+pub stream-on : (b : Bool) (s k : ℕ) (m : Refusal) → ◌≡◌ {A = Result ℕ Refusal} (Ok k) (pick b (Ok s) (Err m)) → (b ≡ true) × (k ≡ s)
+stream-on true s k m e = (refl, cc)
+stream-on false s k m e = cc
+
+-- ---- what is told of it all
+
+pub plain-eight : {A : Type 0} (row : A → List ℕ) (sheet records : List ℕ) (said : List Record → Said A)
+    → ((rs : List Record) → Plain (said rs)) → Plain (of_eight row sheet records said)
+plain-eight row sheet records said t =
+    plain-check (valid_alone (sheet_in sheet)) 12 _ (omega arith)
+    (plain-standing 9 (records_in 8 records) _ (omega arith) (λ rs. plain-given row (said rs) (t rs)))
+
+pub plain-work : (sheet seen event : List ℕ) → Plain (work_says sheet seen event)
+unfolding work_says
+plain-work sheet seen event =
+    plain-check (valid_alone (sheet_in sheet)) 12 _ (omega arith)
+    (plain-standing 9 (records_in 1 seen) _ (omega arith) (λ rs.
+    plain-standing 9 (event_in event) _ (omega arith) (λ e. plain-given try_row _ (plain-attempt (sheet_in sheet) (own rs 0) e))))
+
+pub plain-store : (sheet attempt records : List ℕ) → Plain (store_says sheet attempt records)
+unfolding store_says store_of
+plain-store sheet attempt records =
+    plain-check (valid_alone (sheet_in sheet)) 12 _ (omega arith)
+    (plain-standing 9 (try_in attempt) _ (omega arith) (λ a.
+    plain-standing 9 (records_in 8 records) _ (omega arith) (λ rs. plain-given _ _ (plain-reply (sheet_in sheet) a (own rs a.stream)))))

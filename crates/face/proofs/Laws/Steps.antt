@@ -2,17 +2,19 @@
 use mathlib.Core.Path.{◌≡◌, refl, sym, ap, ◌∙◌}
 use mathlib.Core.Logic.{⊎_elim}
 use mathlib.Core.Bool.{Bool, true, false, ◌&&◌, and_assoc}
-use mathlib.Core.List.{List, [], ◌∷◌, append-nil}
+use mathlib.Core.List.{List, append-nil}
 use mathlib.Core.Option.{none, some}
 use Prim.Native.Nat.{ℕ, ◌+◌, ◌*◌, ◌≤◌, ◌<◌}
 use native.Mathlib.Omega.{arith}
-use lib.ListN.{length, set, drop, drop_of_length-le, length-set, length-drop}
+use lib.ListN.{length, set, take, drop, drop_of_length-le, length-set, length-drop}
+use lib.Seq.{take_all}
 use lib.Dec.{leb}
-use Rattle.octets.specs.Choice.{pick}
+use Rattle.std.specs.Prelude.{Result, Ok, Err}
 use Rattle.octets.specs.Buffer.{over, put_at}
 use Rattle.octets.proofs.Choice.{T_true, decide}
 use Rattle.sheet.specs.declared.Sheet.{Sheet}
 use Rattle.sheet.specs.declared.Refusal.{Refusal}
+use Rattle.sheet.specs.Refusal.{refusal_number, refusal_line}
 use Rattle.sheet.specs.Value.{sheet_in, valid_alone}
 use Rattle.streams.specs.declared.Record.{Record}
 use Rattle.streams.specs.declared.Event.{Event}
@@ -20,9 +22,7 @@ use Rattle.streams.specs.declared.Answer.{Answer}
 use Rattle.streams.specs.Record.{rules_of, on_sheet, phase_number, legal, own}
 use Rattle.streams.specs.Answer.{answer_said}
 use Rattle.streams.specs.Table.{sender_on}
-use Rattle.reception.specs.declared.Taking.TheVariants.{Took, Refused}
 use Rattle.reception.specs.declared.Attempt.{Attempt}
-use Rattle.reception.specs.declared.Taking.{Taking}
 use Rattle.reception.specs.Steps.{Said, gives, refuses, check, Try, attempt_of, reply_of, stored, store_of, attempt_said, taking_said}
 use Rattle.reception.specs.Promises.{settle≡}
 use Rattle.reception.proofs.Laws.Steps.{seats-le-8, reply-gives, reply-below}
@@ -33,7 +33,7 @@ use Rattle.face.specs.Calls.{Stored as Kept}
 use Rattle.rows.specs.Promises.{Rowed}
 use Rattle.face.specs.Promises.{Keeps}
 use Rattle.face.specs.Inner.{Nowhere, NeverLegal}
-use Rattle.face.proofs.Laws.Told.{rowed-refuses, keeps-refuses, misfit-is}
+use Rattle.face.proofs.Laws.Told.{misfit_said, misfit-is}
 use Rattle.rows.proofs.Laws.Answers.{answer-length}
 use Rattle.rows.proofs.Laws.Claims.{attempts_stand}
 use Rattle.rows.proofs.Laws.Records.{is-none, option_cases, records-eight, row-set, place_set}
@@ -49,22 +49,13 @@ check-given false number f x = refl
 
 -- what is refused behind a valid sheet, where 12 comes before it
 refused-behind : {A : Type 0} (s : Sheet) (right : Bool) (next : Said A) → ((rules_of s).seats ≤ 8 → right ≡ false)
-    → check (valid_alone s) 12 (check right 9 next) ≡ refuses (pick (valid_alone s) 9 12) 0
+    → check (valid_alone s) 12 (check right 9 next) ≡ misfit_said s
 refused-behind s right next h = ⊎_elim (λ t. rw (T_true (valid_alone s) t, h (seats-le-8 s t))) (λ f. rw f) (decide (valid_alone s))
-
--- which is told by its number
-pub rowed_misfit : (sheet : List ℕ) (said : Said (List ℕ)) → said ≡ refuses (pick (valid_alone (sheet_in sheet)) 9 12) 0
-    → (out : List ℕ) (r : ℕ) → r ≡ pick (valid_alone (sheet_in sheet)) 9 12 → Rowed said out r out
-rowed_misfit sheet said e out r told = rw e (rowed-refuses _ 0 out r (omega arith))
-
-pub keeps_misfit : (sheet : List ℕ) (said : Said Kept) → said ≡ refuses (pick (valid_alone (sheet_in sheet)) 9 12) 0
-    → (records answer : List ℕ) (r : ℕ) → r ≡ pick (valid_alone (sheet_in sheet)) 9 12 → Keeps said records answer r records answer
-keeps_misfit sheet said e records answer r told = rw e (keeps-refuses _ 0 records answer r (omega arith))
 
 -- ---- working out
 
 -- nothing is worked out of an event that is on no sheet
-attempt-nowhere : (s : Sheet) (x : Record) (e : Event) → Nowhere e → attempt_of s x e ≡ refuses (pick (valid_alone s) 9 12) 0
+attempt-nowhere : (s : Sheet) (x : Record) (e : Event) → Nowhere e → attempt_of s x e ≡ misfit_said s
 unfolding attempt_of
 attempt-nowhere s x e n =
     let q = rules_of s in
@@ -72,30 +63,31 @@ attempt-nowhere s x e n =
 
 module _ (sheet seen event : List ℕ) where
   -- no record
-  pub work-unseen : records_in 1 seen ≡ none → work_says sheet seen event ≡ refuses (pick (valid_alone (sheet_in sheet)) 9 12) 0
+  pub work-unseen : records_in 1 seen ≡ none → work_says sheet seen event ≡ misfit_said (sheet_in sheet)
   unfolding work_says standing
-  work-unseen e = rw e (misfit-is (valid_alone (sheet_in sheet)) 9)
+  work-unseen e = rw e (misfit-is (sheet_in sheet))
 
   -- a record and an event
-  pub work-given : (x : Record) (e : Event) → records_in 1 seen ≡ some (x ∷ []) → event_in event ≡ some e
-      → work_says sheet seen event ≡ of_given try_row (attempt_of (sheet_in sheet) x e)
+  pub work-given : (rs : List Record) (e : Event) → records_in 1 seen ≡ some rs → event_in event ≡ some e
+      → work_says sheet seen event ≡ of_given try_row (attempt_of (sheet_in sheet) (own rs 0) e)
   unfolding work_says standing attempt_of
-  work-given x e r g = rw (r, g) (check-given (valid_alone (sheet_in sheet)) 12 try_row _)
+  work-given rs e r g = rw (r, g) (check-given (valid_alone (sheet_in sheet)) 12 try_row _)
 
   -- a record and no event
-  work-eventless : (x : Record) → records_in 1 seen ≡ some (x ∷ []) → event_in event ≡ none
-      → work_says sheet seen event ≡ refuses (pick (valid_alone (sheet_in sheet)) 9 12) 0
+  work-eventless : (rs : List Record) → records_in 1 seen ≡ some rs → event_in event ≡ none → work_says sheet seen event ≡ misfit_said (sheet_in sheet)
   unfolding work_says standing
-  work-eventless x r g = rw (r, g) (misfit-is (valid_alone (sheet_in sheet)) 9)
+  work-eventless rs r g = rw (r, g) (misfit-is (sheet_in sheet))
 
-  -- a record, and numbers that stand for no event but one on no sheet
-  pub work-nothing : (x : Record) → records_in 1 seen ≡ some (x ∷ []) → ((e : Event) → event_in event ≡ some e → Nowhere e)
-      → work_says sheet seen event ≡ refuses (pick (valid_alone (sheet_in sheet)) 9 12) 0
+  -- numbers that stand for no event but one on no sheet
+  pub work-nothing : ((e : Event) → event_in event ≡ some e → Nowhere e) → work_says sheet seen event ≡ misfit_said (sheet_in sheet)
   unfolding of_given
-  work-nothing x r n =
-      ⊎_elim (λ g. work-eventless x r g)
-      (λ s. work-given x s.0 r s.1 ∙ ap (of_given try_row) (attempt-nowhere (sheet_in sheet) x s.0 (n s.0 s.1)))
-      (option_cases (event_in event))
+  work-nothing n =
+      ⊎_elim (λ r. work-unseen r)
+      (λ (t : (rs : List Record) × (records_in 1 seen ≡ some rs)).
+      ⊎_elim (λ g. work-eventless t.0 t.1 g)
+      (λ s. work-given t.0 s.0 t.1 s.1 ∙ ap (of_given try_row) (attempt-nowhere (sheet_in sheet) (own t.0 0) s.0 (n s.0 s.1)))
+      (option_cases (event_in event)))
+      (option_cases (records_in 1 seen))
 
 -- ---- storing
 
@@ -106,7 +98,7 @@ fails_with true false c e = refl
 fails_with false b c e = refl
 
 -- nothing is stored of an attempt that is never legal
-reply-never : (s : Sheet) (a : Try) (x : Record) → NeverLegal a → reply_of s a x ≡ refuses (pick (valid_alone s) 9 12) 0
+reply-never : (s : Sheet) (a : Try) (x : Record) → NeverLegal a → reply_of s a x ≡ misfit_said s
 unfolding reply_of
 reply-never s a x n =
     let q = rules_of s in
@@ -116,10 +108,10 @@ reply-never s a x n =
 
 module _ (sheet attempt records : List ℕ) where
   -- no records
-  pub store-unread : is_some (records_in 8 records) ≡ false → store_says sheet attempt records ≡ refuses (pick (valid_alone (sheet_in sheet)) 9 12) 0
+  pub store-unread : is_some (records_in 8 records) ≡ false → store_says sheet attempt records ≡ misfit_said (sheet_in sheet)
   unfolding store_says standing
   store-unread e =
-      let misfit = misfit-is (valid_alone (sheet_in sheet)) 9 in
+      let misfit = misfit-is (sheet_in sheet) in
       ⊎_elim (λ g. rw g misfit) (λ s. rw (s.1, is-none (records_in 8 records) e) misfit) (option_cases (try_in attempt))
 
   module _ (rs : List Record) (are : records_in 8 records ≡ some rs) where
@@ -130,23 +122,32 @@ module _ (sheet attempt records : List ℕ) where
 
     -- records, and numbers that stand for no attempt but one that is never legal
     pub store_nothing : ((a : Try) → try_in attempt ≡ some a → NeverLegal a)
-        → store_says sheet attempt records ≡ refuses (pick (valid_alone (sheet_in sheet)) 9 12) 0
+        → store_says sheet attempt records ≡ misfit_said (sheet_in sheet)
     unfolding store_says standing store_of of_given
     store_nothing n =
-        ⊎_elim (λ g. rw g (misfit-is (valid_alone (sheet_in sheet)) 9))
+        ⊎_elim (λ g. rw g (misfit-is (sheet_in sheet)))
         (λ (s : (a : Try) × (try_in attempt ≡ some a)).
         store_given s.0 s.1 ∙ rw (reply-never (sheet_in sheet) s.0 (own rs s.0.stream) (n s.0 s.1)))
         (option_cases (try_in attempt))
 
+  -- or none
+  pub store_never : ((a : Try) → try_in attempt ≡ some a → NeverLegal a) → store_says sheet attempt records ≡ misfit_said (sheet_in sheet)
+  store_never n =
+      ⊎_elim (λ g. store-unread (rw g)) (λ (s : (rs : List Record) × (records_in 8 records ≡ some rs)). store_nothing s.0 s.1 n)
+      (option_cases (records_in 8 records))
+
 -- ---- the answer in an attempt's row
 
 -- it is what is behind the first five numbers
-pub answered : (row : List ℕ) (a : Attempt) → try_in row ≡ some (attempt_said a) → drop 5 row ≡ answer_row a.answer
+answered : (row : List ℕ) (a : Attempt) → try_in row ≡ some (attempt_said a) → drop 5 row ≡ answer_row a.answer
 answered row a e = ap (drop 5) (sym ((attempts_stand row (attempt_said a)).0 e).1)
 
--- so that those five are there
-pub answered-length : (row : List ℕ) (a : Attempt) → try_in row ≡ some (attempt_said a) → 5 ≤ length row
+-- which are eleven with it
+pub answered-length : (row : List ℕ) (a : Attempt) → try_in row ≡ some (attempt_said a) → length row ≡ 11
 answered-length row a e = omega (arith, ap length (answered row a e), answer-length a.answer, length-drop 5 row)
+
+pub answered-part : (row : List ℕ) (a : Attempt) → try_in row ≡ some (attempt_said a) → take 6 (drop 5 row) ≡ answer_row a.answer
+answered-part row a e = take_all 6 (drop 5 row) (omega (arith, answered-length row a e, length-drop 5 row)) ∙ answered row a e
 
 -- ---- a store that took
 
@@ -159,7 +160,8 @@ pub record Taken (s : Sheet) (a : Attempt) (rs : List Record) : Type 0 where
   pub stream : a.stream < 8
   pub says : left_says (store_of s (attempt_said a) rs) ≡ gives (kept_of rs a)
 
-pub taken : (s : Sheet) (a : Attempt) (rs : List Record) (r : Taking) (g : Answer) → settle≡ s a (own rs a.stream) r → r ≡ Took g → Taken s a rs
+pub taken : (s : Sheet) (a : Attempt) (rs : List Record) (r : Result Answer Refusal) (g : Answer)
+    → settle≡ s a (own rs a.stream) r → r ≡ Ok g → Taken s a rs
 unfolding store_of stored of_given
 taken s a rs r g e t =
     let x = own rs a.stream in
@@ -168,10 +170,10 @@ taken s a rs r g e t =
     record { stream = reply-below s (attempt_said a) x (answer_said g) said; says = rw (said ∙ ap gives (sym same)) }
 
 -- one that was refused
-pub refused_says : (s : Sheet) (a : Attempt) (rs : List Record) (r : Taking) (refusal : Refusal)
-    → settle≡ s a (own rs a.stream) r → r ≡ Refused refusal → left_says (store_of s (attempt_said a) rs) ≡ refuses refusal.number refusal.at
+pub refused_says : (s : Sheet) (a : Attempt) (rs : List Record) (r : Result Answer Refusal) (x : Refusal)
+    → settle≡ s a (own rs a.stream) r → r ≡ Err x → left_says (store_of s (attempt_said a) rs) ≡ refuses (refusal_number x) (refusal_line x)
 unfolding store_of of_given
-refused_says s a rs r refusal e t = rw (sym e ∙ ap taking_said t)
+refused_says s a rs r x e t = rw (sym e ∙ ap taking_said t)
 
 -- ---- what is kept
 

@@ -4,6 +4,7 @@ use Prim.Native.Nat.{ℕ, zero-le}
 use mathlib.Core.Bool.{Bool, true, false}
 use mathlib.Core.List.{List, []}
 use mathlib.Core.Option.{Option, none, some}
+use native.Mathlib.Omega.{arith}
 use borrow.Author.Tests.{le-leb}
 use Rattle.octets.specs.Choice.{pick}
 use Rattle.sheet.specs.declared.Sheet.{Sheet}
@@ -21,7 +22,8 @@ use Rattle.reception.specs.Steps.{Said, gives, refuses, check}
 use Rattle.outgoing.specs.Sending.{message_out, Parcel, parcel, parcel_of, sending_of, sending_in, octets_out}
 use Rattle.rows.specs.Lent.{roomy}
 use Rattle.face.specs.Calls.{made_says}
-use Rattle.face.proofs.Laws.Wrote.{in_room, packet_said, room-made}
+use Rattle.face.proofs.Laws.Told.{Plain, plain-check, plain-roomy}
+use Rattle.face.proofs.Laws.Wrote.{in_room, packet_said, room-made, plain-packet_said}
 
 -- ---- a message
 
@@ -36,6 +38,11 @@ written_in s o names room = by (valid_alone s)
     by : (b : Bool) → made_says (pick b (made_of s o names room) (refused 12)) ≡ in_room room (check b 12 (packet_said (packet_for s (meaning names o))))
     by true = room-made room (packet_for s (meaning names o))
     by false = refl
+
+pub plain-written : (s : Sheet) (o : Outcome) (names : List ℕ) (room : ℕ) → Plain (made_says (write_of s o names room))
+plain-written s o names room =
+    rw (written_in s o names room)
+    (plain-roomy _ (written s o names) (plain-check (valid_alone s) 12 _ (omega arith) (plain-packet_said (packet_for s (meaning names o)))))
 
 -- ---- an answer
 
@@ -78,3 +85,17 @@ unfolding sending_in sending_of roomy
 sending_in_lem s users stream none room = check-in (valid_with s users) 12 room (refuses 9 0) (refuses 9 0) refl
 sending_in_lem s users stream (some a) room =
     check-in (valid_with s users) 12 room _ _ (check-in (on_sheet (rules_of s) stream) 9 room _ _ (sent_in s (user_of users stream) room (message_of a)))
+
+plain-sent_said : (s : Sheet) (transmitter : List ℕ) (o : Option Sent) → Plain (sent_said s transmitter o)
+plain-sent_said s transmitter none = tt
+plain-sent_said s transmitter (some m) = plain-packet_said (packet_of (numbers_of s) (message_out s.server transmitter m))
+
+plain-sent_in : (s : Sheet) (users : List (List ℕ)) (stream : ℕ) (o : Option Answer) → Plain (sent s users stream o)
+plain-sent_in s users stream none = plain-check (valid_with s users) 12 _ (omega arith) (omega arith, omega arith)
+plain-sent_in s users stream (some a) =
+    plain-check (valid_with s users) 12 _ (omega arith)
+    (plain-check (on_sheet (rules_of s) stream) 9 _ (omega arith) (plain-sent_said s (user_of users stream) (message_of a)))
+
+pub plain-sent : (s : Sheet) (users : List (List ℕ)) (stream : ℕ) (o : Option Answer) (room : ℕ)
+    → Plain (made_says (octets_out (sending_in s users stream o room)))
+plain-sent s users stream o room = rw (sending_in_lem s users stream o room) (plain-roomy _ (sent s users stream o) (plain-sent_in s users stream o))

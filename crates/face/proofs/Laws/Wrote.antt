@@ -13,15 +13,16 @@ use borrow.Author.Tests.{le-leb}
 use Rattle.octets.specs.Choice.{pick}
 use Rattle.octets.specs.Buffer.{over}
 use Rattle.octets.proofs.Choice.{pick_true}
-use Rattle.writing.specs.declared.Writing.{Writing}
-use Rattle.writing.specs.declared.Writing.TheVariants.{Written, Refused as NotWritten}
+use Rattle.std.specs.Prelude.{Result, Ok, Err}
+use Rattle.sheet.specs.declared.Refusal.{Refusal}
+use Rattle.sheet.specs.Refusal.{refusal_number, refusal_line}
 use Rattle.writing.specs.Writing.{Made, made, refused, room_for, told, after, Answered}
-use Rattle.reception.specs.Steps.{Said, gives, refuses, check}
+use Rattle.reception.specs.Steps.{Said, gives, refuses, check, said_by}
 use Rattle.rows.specs.Lent.{code, put, roomy}
 use Rattle.face.specs.Calls.{made_says}
 use Rattle.rows.specs.Promises.{Rowed}
 use Rattle.face.specs.Promises.{Wrote}
-use Rattle.face.specs.Inner.{writing_says}
+use Rattle.face.proofs.Laws.Told.{Plain}
 
 -- what is given where it goes into so much room, else 11
 abbrev pub in_room : ℕ → Said (List ℕ) → Said (List ℕ)
@@ -118,22 +119,23 @@ module _ (makes : ℕ → Made) (wants : Said (List ℕ)) (in-room : (room : ℕ
   asked = makes (length (take room out))
 
   -- what was answered there and then told is the call's
-  pub wrote : (writing : Writing) (part count : List ℕ) (r : ℕ) → Answered asked (take room out) writing part
-      → Rowed (writing_says writing) written r count → Wrote (made_says (makes (length out))) out written r (part ++ drop room out) count
+  pub wrote : (answer : Result ℕ Refusal) (part count : List ℕ) (r : ℕ) → Answered asked (take room out) answer part
+      → Rowed (said_by (λ (n : ℕ). n ∷ []) answer) written r count → Wrote (made_says (makes (length out))) out written r (part ++ drop room out) count
   unfolding told after roomy code put
-  wrote writing part count r answered h = rw (in-room (length out)) (by asked writing refl answered h)
+  wrote answer part count r answered h = rw (in-room (length out)) (by asked answer refl answered h)
     where
-      by : (w : Made) (x : Writing) → asked ≡ w → Answered w (take room out) x part → Rowed (writing_says x) written r count
+      by : (w : Made) (x : Result ℕ Refusal) → asked ≡ w → Answered w (take room out) x part → Rowed (said_by (λ (n : ℕ). n ∷ []) x) written r count
           → Wrote (in_room (length out) wants) out written r (part ++ drop room out) count
-      by (made p) (Written n) f t h =
+      by (made p) (Ok n) f t h =
           let l : n ≡ length p = cc t.0 in
           part-gave wants out written room e p part count r (sym (in-room (length (take room out))) ∙ ap made_says f) t.1 (rw l at h)
-      by (made p) (NotWritten number) f t h = let z : ◌≡◌ {A = ℕ} 0 1 = cc t.0 in absurd (omega arith)
-      by (refused number) (Written n) f t h = let z : ◌≡◌ {A = ℕ} 0 1 = cc t.0 in absurd (omega arith)
-      by (refused number) (NotWritten n) f t h =
-          let l : n ≡ number = cc t.0 in
+      by (made p) (Err x) f t h = let z : ◌≡◌ {A = ℕ} 0 1 = cc t.0 in absurd (omega arith)
+      by (refused number) (Ok n) f t h = let z : ◌≡◌ {A = ℕ} 0 1 = cc t.0 in absurd (omega arith)
+      by (refused number) (Err x) f t h =
+          let l : refusal_number x ≡ number = cc t.0 in
+          let k : refusal_line x ≡ 0 = cc t.0 in
           rw h.1
-          (part-refused wants out written room e number 0 part r (sym (in-room (length (take room out))) ∙ ap made_says f) t.1 (rw l at h.0))
+          (part-refused wants out written room e number 0 part r (sym (in-room (length (take room out))) ∙ ap made_says f) t.1 (rw (l, k) at h.0))
 
 -- ---- a packet that is made, by the room
 
@@ -151,3 +153,7 @@ room-made room (some p) = by (leb (length p) room)
     by : (b : Bool) → made_says (pick b (made p) (refused 11)) ≡ check b 11 (gives p)
     by true = refl
     by false = refl
+
+pub plain-packet_said : (o : Option (List ℕ)) → Plain (packet_said o)
+plain-packet_said none = (omega arith, omega arith)
+plain-packet_said (some p) = tt

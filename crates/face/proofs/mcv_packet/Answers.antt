@@ -1,24 +1,14 @@
--- `face::mcv_packet` meets its contract: what the part of the buffer was asked for is what the call gives (`wrote`). Assumes nothing.
-use mathlib.Core.Path.{sym}
-use Prim.Native.Nat.{ℕ}
-use lib.Seq.{length-take-le}
+-- `face::mcv_packet` meets its contract: what is told fits 16 bits. Assumes nothing.
+use lib.ListN.{length}
 use Rattle.sheet.specs.Value.{sheet_in}
-use Rattle.outgoing.specs.Sending.{sending_in, octets_out}
 use Rattle.rows.specs.Rows.{answer_in}
 use Rattle.face.specs.Calls.{packet_says}
-use Rattle.face.proofs.Laws.Wrote.{wrote}
-use Rattle.face.proofs.Laws.Writes.{sent, sending_in_lem}
+use Rattle.face.proofs.Laws.Told.{told-plain}
+use Rattle.face.proofs.Laws.Writes.{plain-sent}
 use Rattle.face.proofs.mcv_packet.Goals as goal
 
-pub slice_bounds-packet_lent-end-2 : goal.slice_bounds-packet_lent-end-2
-slice_bounds-packet_lent-end-2 c = sym (length-take-le _ _ c.room_of-room.ensures.1)
-
-pub returns : goal.returns
+pub code-requires : goal.code-requires
 unfolding packet_says
-returns c =
+code-requires c =
     let a = c.args in
-    let sheet = sheet_in a.sheet.now in
-    let answer = answer_in a.answer.now in
-    wrote (λ (room : ℕ). octets_out (sending_in sheet a.users.now a.stream answer room)) (sent sheet a.users.now a.stream answer)
-    (sending_in_lem sheet a.users.now a.stream answer) a.out.now a.written.now c.room_of-room.result c.room_of-room.ensures.0 c.packet_lent.result
-    _ _ _ c.packet_lent.ensures c.put_written.ensures
+    told-plain _ _ _ (plain-sent (sheet_in a.sheet.now) a.users.now a.stream (answer_in a.answer.now) (length a.out.now)) c.packet_of.ensures.0

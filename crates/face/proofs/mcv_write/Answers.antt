@@ -1,24 +1,14 @@
--- `face::mcv_write` meets its contract: what the part of the buffer was asked for is what the call gives (`wrote`). Assumes nothing.
-use mathlib.Core.Path.{sym}
-use Prim.Native.Nat.{ℕ}
-use lib.Seq.{length-take-le}
+-- `face::mcv_write` meets its contract: what is told fits 16 bits. Assumes nothing.
+use lib.ListN.{length}
 use Rattle.sheet.specs.Value.{sheet_in}
 use Rattle.packet.specs.Row.{message_in}
-use Rattle.writing.specs.Writing.{write_of}
 use Rattle.face.specs.Calls.{write_says}
-use Rattle.face.proofs.Laws.Wrote.{wrote}
-use Rattle.face.proofs.Laws.Writes.{written, written_in}
+use Rattle.face.proofs.Laws.Told.{told-plain}
+use Rattle.face.proofs.Laws.Writes.{plain-written}
 use Rattle.face.proofs.mcv_write.Goals as goal
 
-pub slice_bounds-write_lent-end-2 : goal.slice_bounds-write_lent-end-2
-slice_bounds-write_lent-end-2 c = sym (length-take-le _ _ c.room_of-room.ensures.1)
-
-pub returns : goal.returns
+pub code-requires : goal.code-requires
 unfolding write_says
-returns c =
+code-requires c =
     let a = c.args in
-    let sheet = sheet_in a.sheet.now in
-    let message = message_in a.message.now in
-    wrote (λ (room : ℕ). write_of sheet message a.names.now room) (written sheet message a.names.now) (written_in sheet message a.names.now)
-    a.out.now a.written.now c.room_of-room.result c.room_of-room.ensures.0 c.write_lent.result
-    _ _ _ c.write_lent.ensures c.put_written.ensures
+    told-plain _ _ _ (plain-written (sheet_in a.sheet.now) (message_in a.message.now) a.names.now (length a.out.now)) c.write.ensures.0

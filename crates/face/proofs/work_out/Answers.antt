@@ -1,35 +1,48 @@
--- `face::work_out` meets its contract: what is worked out, as a row or a code. Assumes nothing.
-use mathlib.Core.Path.{sym, ap, ◌∙◌, subst}
+-- `face::work_out` meets its contract: what is worked out on the record and the event that the rows stand for, and 9 for all else. Assumes nothing.
+use mathlib.Core.Path.{◌≡◌, sym, ap, ◌∙◌}
 use mathlib.Core.List.{[]}
+use borrow.Author.Rules.{rules}
+use Rattle.std.specs.Prelude.{Err}
 use Rattle.sheet.specs.Value.{sheet_in}
-use Rattle.reception.specs.Steps.{Said, Left, Try, work_of, worked_said}
+use Rattle.reception.specs.Steps.{Left, Try, worked_said, work_of}
 use Rattle.rows.specs.Rows.{try_row}
-use Rattle.rows.specs.Promises.{Rowed}
-use Rattle.face.specs.Calls.{of_given}
-use Rattle.face.proofs.Laws.Told.{rowed-refuses, plain-refuses}
-use Rattle.face.proofs.Laws.Reception.{plain-attempt}
+use Rattle.rows.specs.Held.{recording_said}
+use Rattle.face.specs.Calls.{of_given, work_says}
+use Rattle.face.proofs.Laws.Told.{put-refused, put-given, put-misfit, misfit_said}
+use Rattle.face.proofs.Laws.Off.{eventing-some, eventing-none}
+use Rattle.face.proofs.Laws.Steps.{work-unseen, work-given, work-nothing}
+use Rattle.face.proofs.work_out.Goals.{in_default-via-in-Some+in_default, in_default-via-in_default}
 use Rattle.face.proofs.work_out.Goals as goal
 
-pub code-requires : goal.code-requires
-unfolding work_of
-code-requires c =
+pub returns-in_default : goal.returns-in_default
+returns-in_default c =
     let a = c.args in
-    let says = ap (λ (l : Left Try). l.said) (c.work_out_lent.ensures []) in
-    plain-refuses _ _ _ (plain-attempt (sheet_in a.sheet.now) a.seen a.event) (sym says ∙ ap worked_said c.in-Refused.is)
+    let says : work_says a.sheet.now a.seen.now a.event.now ≡ misfit_said (sheet_in a.sheet.now) =
+    elim c.in_default.branch [
+      | in_default-via-in-Some+in_default w ↦
+          work-nothing a.sheet.now a.seen.now a.event.now (eventing-none a.event.now _ c.event_in.ensures w.in_default.is-1)
+      | in_default-via-in_default w ↦ work-unseen a.sheet.now a.seen.now a.event.now (sym c.record_in.ensures ∙ ap recording_said w.in_default.is-0)
+    ] in
+    put-misfit (sheet_in a.sheet.now) _ a.attempt.now _ c.misfit.ensures says
 
-pub returns-in-Out : goal.returns-in-Out
-unfolding of_given work_of
-returns-in-Out c =
+pub returns-in_err-worked : goal.returns-in_err-worked
+unfolding work_of of_given
+returns-in_err-worked c =
+    let a = c.args in
+    let seen = sym c.record_in.ensures ∙ ap recording_said c.in-Some-Some.is-0 in
+    let event = eventing-some a.event.now _ _ c.event_in.ensures c.in-Some-Some.is-1 in
     let says = ap (λ (l : Left Try). l.said) (c.work_out_lent.ensures []) in
-    subst (λ (s : Said Try). Rowed (of_given try_row s) c.args.attempt.now c.put_attempt.result c.put_attempt.new.out)
-    (sym (ap worked_said c.in-Out.is) ∙ says)
+    let bad : c.from_residual.result ≡ Err c.in_err-worked.field-0.0 = search rules in
+    put-refused _ a.attempt.now _ _ bad
+    (work-given a.sheet.now a.seen.now a.event.now _ _ seen event ∙ ap (of_given try_row) (sym says ∙ ap worked_said c.in_err-worked.was))
+
+pub returns : goal.returns
+unfolding work_of of_given
+returns c =
+    let a = c.args in
+    let seen = sym c.record_in.ensures ∙ ap recording_said c.in-Some-Some.is-0 in
+    let event = eventing-some a.event.now _ _ c.event_in.ensures c.in-Some-Some.is-1 in
+    let says = ap (λ (l : Left Try). l.said) (c.work_out_lent.ensures []) in
+    put-given _ _ a.attempt.now _ _
+    (work-given a.sheet.now a.seen.now a.event.now _ _ seen event ∙ ap (of_given try_row) (sym says ∙ ap worked_said c.in_ok-worked.was))
     c.put_attempt.ensures
-
-pub returns-in-Refused : goal.returns-in-Refused
-unfolding of_given work_of
-returns-in-Refused c =
-    let out = c.args.attempt.now in
-    let says = ap (λ (l : Left Try). l.said) (c.work_out_lent.ensures []) in
-    subst (λ (s : Said Try). Rowed (of_given try_row s) out c.code.result out)
-    (sym (ap worked_said c.in-Refused.is) ∙ says)
-    (rowed-refuses _ _ out c.code.result c.code.ensures)

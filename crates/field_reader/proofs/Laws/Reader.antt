@@ -1,6 +1,6 @@
 -- Laws of the reader that remembers its packet and its place, and the claims of specs/Claims.antt on it. Assumes nothing.
 use mathlib.Core.Path.{◌≡◌, refl, sym, ap, ap₂, ◌∙◌}
-use mathlib.Core.Logic.{⊎_elim}
+use mathlib.Core.Logic.{◌↔◌, ⊎_elim}
 use mathlib.Core.Bool.{Bool, true, false}
 use mathlib.Core.List.{List, [], ◌∷◌}
 use Prim.Native.Nat.{ℕ}
@@ -10,38 +10,67 @@ use lib.ListN.{length}
 use lib.Dec.{T, eqb}
 use borrow.Author.Tests.{eq-eqb, ne_eqb}
 use denote.Ref.{Bor}
+use Rattle.std.specs.Prelude.{Option, Some, None, Result, Ok, Err}
 use Rattle.octets.specs.Choice.{pick}
 use Rattle.octets.proofs.Choice.{decide}
 use Rattle.fields.specs.declared.field.Field.{Field}
-use Rattle.fields.specs.declared.field.Step.{Step}
-use Rattle.fields.specs.declared.field.Step.TheVariants.{Field as FieldStep, End as EndStep, Refused as RefusedStep}
 use Rattle.field_reader.specs.declared.FieldReader.{FieldReader}
 use Rattle.field_reader.specs.declared.Made.{Made}
-use Rattle.field_reader.specs.declared.Handed.{Handed}
-use Rattle.fields.specs.Header.{first_field, failed_check}
+use Rattle.sheet.specs.declared.Refusal.{Refusal}
+use Rattle.sheet.specs.declared.Refusal.TheVariants.{Size, Header}
+use Rattle.fields.specs.Header.{first_field, size_right, head_right, checked}
 use Rattle.fields.specs.Walk.{Stepped, field, refused, field_right, field_at, next_at, fields_from, fields_of, stop_from, whole, step_of, step_said}
 use Rattle.fields.specs.Apart.{step_apart}
 use Rattle.fields.specs.Claims.{Headed}
-use Rattle.field_reader.specs.Reader.{reader_at, start_of, moved_to, reader_after, field_in}
-use Rattle.field_reader.specs.Inner.{refused_or}
-use Rattle.field_reader.specs.Promises.{reader_at≡, next_field≡}
+use Rattle.field_reader.specs.Reader.{reader_at, refusal_in, start_of, step_by, moved_to, reader_after, field_in}
+use Rattle.field_reader.specs.Promises.{reader_at≡}
 use Rattle.field_reader.specs.Claims.{HandsOut, Stays, refused4, MadeExactly, NothingBeside, StepsAsTheWalk, SaidByAReader}
 use Rattle.fields.proofs.Laws.Sized.{sized}
-use Rattle.fields.proofs.Laws.Checks.{past_checks-by, past_checks-headed, failed_check-exactly}
+use Rattle.fields.proofs.Laws.Checks.{past_checks-headed, checked_ok, checked-number, checked-line}
 use Rattle.fields.proofs.Laws.Walk.{next-after, next_word, right-next, fields_from-right, fields_from-wrong, stop_from-right, stop_from-wrong, walk_ind}
 use Rattle.fields.proofs.Laws.Step.{Placed, step-misplaced, step_end, step-wrong, step_right}
 
--- a reader that is made and steps once says what `field_in` says
-pub field_in-step : (packet : Bor (List ℕ)) (at : ℕ) (m : Made) (h : Handed) → reader_at≡ packet at m → next_field≡ m.reader h
-    → refused_or m.refusal (step_said h.said) ≡ field_in packet.now at
-unfolding field_in start_of
-field_in-step packet at m h e f =
-    let p = packet.now in
-    rw (f.1, e, past_checks-by (λ (number : ℕ). 0) p at, past_checks-by (λ (number : ℕ). refused number 0) p (step_of p at)) (step (eqb (failed_check p) 0))
-  where
-    step : (b : Bool) → pick b (step_of packet.now (pick b at 0)) (refused (failed_check packet.now) 0) ≡ pick b (step_of packet.now at) (refused (failed_check packet.now) 0)
-    step true = refl
-    step false = refl
+-- ---- making one
+
+-- nothing is refused
+none_refused : (r : Result Unit Refusal) → refusal_in r ≡ None → Ok tt ≡ r
+none_refused (Ok u) e = refl
+none_refused (Err r) e = cc
+
+-- this is refused
+some_refused : (r : Result Unit Refusal) (e : Refusal) → refusal_in r ≡ Some e → Err e ≡ r
+some_refused (Ok u) e q = cc
+some_refused (Err r) e q = cc
+
+module _ (packet : Bor (List ℕ)) (at : ℕ) (m : Made) (made : reader_at≡ packet at m) where
+  -- no refusal: past both checks, where it starts, and what is said of the place
+  pub made-none : m.refusal ≡ None → Headed packet.now
+  made-none e = checked_ok packet.now (none_refused (checked packet.now) (rw made at e))
+
+  pub start-none : m.refusal ≡ None → m.reader ≡ reader_at packet at
+  unfolding start_of
+  start-none e = rw (made, past_checks-headed (λ (number : ℕ). 0) packet.now at (made-none e))
+
+  pub said-none : m.refusal ≡ None → step_by m.reader ≡ field_in packet.now at
+  unfolding field_in
+  said-none e =
+      let p = packet.now in
+      rw (start-none e, past_checks-headed (λ (number : ℕ). refused number 0) p (step_of p at) (made-none e))
+
+  -- a refusal: where it starts, and what is said of the place
+  pub made-some : (r : Refusal) → m.refusal ≡ Some r → Err r ≡ checked packet.now
+  made-some r e = some_refused (checked packet.now) r (rw made at e)
+
+  pub start-some : (r : Refusal) → m.refusal ≡ Some r → m.reader ≡ reader_at packet 0
+  unfolding start_of
+  start-some r e = rw (made, checked-number (λ (number : ℕ). 0) packet.now at r (made-some r e))
+
+  pub said-some : (r : Refusal) → m.refusal ≡ Some r → step_said (Err r) ≡ field_in packet.now at
+  unfolding field_in
+  said-some r e =
+      let p = packet.now in
+      let told = made-some r e in
+      rw (checked-line p r told, checked-number (λ (number : ℕ). refused number 0) p (step_of p at) r told)
 
 -- ---- a step at a place that a walk from 12 comes to
 
@@ -64,8 +93,8 @@ unfolding field_at
 step_field p at o t = step_right p at o.least o.word t (next_at p at) refl
 
 -- the end, or 4
-abbrev rest_of : List ℕ → ℕ → Step
-rest_of p at = pick (eqb at (length p)) EndStep refused4
+abbrev rest_of : List ℕ → ℕ → Result (Option Field) Refusal
+rest_of p at = pick (eqb at (length p)) (Ok None) refused4
 
 -- at any other place the end is told, or 4
 step_rest : (p : List ℕ) (at : ℕ) → Placed p at → field_right p at ≡ false → step_said (rest_of p at) ≡ step_of p at
@@ -76,11 +105,11 @@ step_rest p at o w =
     (eq-or-lt_of_le o.inside)
 
 -- what is said there hands out no field
-rest_stays : (b : Bool) (at : ℕ) → moved_to (step_said (pick b EndStep refused4)) at ≡ at
+rest_stays : (b : Bool) (at : ℕ) → moved_to (step_said (pick b (Ok None) refused4)) at ≡ at
 rest_stays true at = refl
 rest_stays false at = refl
 
-rest-none : (b : Bool) (f : Field) → step_said (pick b EndStep refused4) ≡ field f → ⊥
+rest-none : (b : Bool) (f : Field) → step_said (pick b (Ok None) refused4) ≡ field f → ⊥
 rest-none true f e = let z : ◌≡◌ {A = ℕ} 0 1 = cc in omega arith
 rest-none false f e = let z : ◌≡◌ {A = ℕ} 0 1 = cc in omega arith
 
@@ -100,7 +129,7 @@ module _ (packet : Bor (List ℕ)) where
       (ap on (sym (ap (λ (x : Stepped). moved_to x at) (sym e) ∙ rest_stays (eqb at (length p)) at)), e)
 
   -- .. and nowhere else
-  stays-only : (at : ℕ) (said : Step) → Placed p at → Stays (on at) said → (field_right p at ≡ false) × (said ≡ rest_of p at)
+  stays-only : (at : ℕ) (said : Result (Option Field) Refusal) → Placed p at → Stays (on at) said → (field_right p at ≡ false) × (said ≡ rest_of p at)
   unfolding field_at
   stays-only at said o st =
       ⊎_elim
@@ -120,10 +149,10 @@ module _ (packet : Bor (List ℕ)) where
       (λ at w o. rw (fields_from-wrong p at w, stop_from-wrong p at w) (refl, stays at o w))
       (λ at t r o.
       let rest = r (placed-next p at o t) in
-      rw (fields_from-right p at t, stop_from-right p at t) ((record { reader = on (next_at p at); said = FieldStep (field_at p at) }, (sym (over at o t), sym (step_field p at o t)), refl, rest.0), rest.1))
+      rw (fields_from-right p at t, stop_from-right p at t) ((record { reader = on (next_at p at); said = Ok (Some (field_at p at)) }, (sym (over at o t), sym (step_field p at o t)), refl, rest.0), rest.1))
 
   -- and nothing else
-  hands-only : (fs : List Field) (s : FieldReader) (said : Step) (at : ℕ) → Placed p at → HandsOut (on at) fs s → Stays s said
+  hands-only : (fs : List Field) (s : FieldReader) (said : Result (Option Field) Refusal) (at : ℕ) → Placed p at → HandsOut (on at) fs s → Stays s said
       → (fs ≡ fields_from p at) × (s ≡ on (stop_from p at)) × (said ≡ rest_of p (stop_from p at))
   hands-only [] s said at o e st =
       let only = stays-only at said o (rw e at st) in
@@ -141,15 +170,31 @@ module _ (packet : Bor (List ℕ)) where
 
 -- ---- the claims
 
+abbrev refused_by : Bool → Bool → Option Refusal
+refused_by size head = refusal_in (pick size (pick head (Ok tt) (Err Header)) (Err Size))
+
 pub made_exactly : MadeExactly
-made_exactly packet at m e = rw e (failed_check-exactly packet.now)
+unfolding checked
+made_exactly packet at m e = rw e (by-each (size_right packet.now) (head_right packet.now))
+  where
+    by-each : (size head : Bool)
+        → ((refused_by size head ≡ None) ↔ (T size × T head))
+        × ((refused_by size head ≡ Some Size) ↔ (size ≡ false))
+        × ((refused_by size head ≡ Some Header) ↔ (T size × (head ≡ false)))
+    by-each true true = (((λ e. (tt, tt)), λ x. refl), ((λ e. cc), λ e. cc), ((λ e. cc), λ x. cc x.1))
+    by-each true false = (((λ e. cc), λ x. absurd x.1), ((λ e. cc), λ e. cc), ((λ e. (tt, refl)), λ x. refl))
+    by-each false head = (((λ e. cc), λ x. absurd x.0), ((λ e. refl), λ e. refl), ((λ e. cc), λ x. absurd x.0))
 
 pub nothing_beside : NothingBeside
-unfolding start_of
-nothing_beside packet at m e h =
-    let p = packet.now in
-    let misplaced = step-misplaced p 0 (λ o. omega arith) in
-    rw (e, past_checks-by (λ (number : ℕ). 0) p at, ne_eqb (failed_check p) 0 (rw e at h)) (ap (λ (x : Stepped). reader_at packet (moved_to x 0)) (sym misplaced), sym misplaced)
+nothing_beside packet at m made h = at_octet_0 m.refusal refl
+  where
+    misplaced : step_of packet.now 0 ≡ refused 4 0
+    misplaced = step-misplaced packet.now 0 (λ o. omega arith)
+
+    at_octet_0 : (r : Option Refusal) → m.refusal ≡ r → Stays m.reader refused4
+    at_octet_0 None e = absurd (h e)
+    at_octet_0 (Some r) e =
+        rw (start-some packet at m made r e) (ap (λ (x : Stepped). reader_at packet (moved_to x 0)) (sym misplaced), sym misplaced)
 
 pub steps_as_the_walk : StepsAsTheWalk
 unfolding start_of fields_of whole
@@ -161,9 +206,7 @@ steps_as_the_walk packet m fs s said h e =
     )
 
 pub said_by_a_reader : SaidByAReader
-said_by_a_reader packet at m h r e f g =
-    let number = m.refusal.number in
-    let said = g ∙ sym (field_in-step packet at m h e f) in (
-      (λ z. step_apart r h.said (said ∙ rw (eq-eqb number 0 z))),
-      λ n. step_apart r (RefusedStep m.refusal) (said ∙ rw (ne_eqb number 0 n)),
-    )
+said_by_a_reader packet at m h r made handed said = (
+  (λ e. step_apart r h.said (said ∙ sym (handed.1 ∙ said-none packet at m made e))),
+  λ x e. step_apart r (Err x) (said ∙ sym (said-some packet at m made x e)),
+)

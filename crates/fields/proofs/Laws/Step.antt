@@ -1,7 +1,7 @@
 -- Laws of one field at a place: the walk over its octets alone, and what stands at a place. Assumes nothing.
 use mathlib.Core.Path.{◌≡◌, refl, sym, ◌∙◌}
 use mathlib.Core.Logic.{⊎_elim}
-use mathlib.Core.Bool.{true, false, ◌&&◌}
+use mathlib.Core.Bool.{Bool, true, false, ◌&&◌}
 use mathlib.Core.List.{List}
 use Prim.Native.Nat.{ℕ, ◌+◌, ◌%◌, ◌≤◌, ◌<◌}
 use native.Mathlib.Omega.{arith}
@@ -9,6 +9,8 @@ use lib.ListN.{length, get_or, take}
 use lib.Seq.{length-take-le, get_or-take, take-take}
 use lib.Dec.{T, leb, eqb, leb→le, eqb→eq}
 use borrow.Author.Tests.{le-leb, eq-eqb, ne_eqb}
+use Rattle.std.specs.Prelude.{Some, None}
+use Rattle.octets.specs.Choice.{pick}
 use Rattle.octets.proofs.Choice.{T_true, T_false, T-and-left, T-and-right, decide, pick_true, pick-false, pick-cases}
 use Rattle.fields.specs.Header.{first_field}
 use Rattle.fields.specs.Walk.{value_end, next_at, padding, field_right, field_at, stop_from, field, end, refused, place_right, step_of}
@@ -48,27 +50,40 @@ module _ (p : List ℕ) (at next : ℕ) (is : next ≡ next_at p at) (ends : nex
   right-part =
       rw (get_or_part at (omega arith), next-part, padding-part, length-take-le next p ends, ← is, le-leb next next (omega arith), le-leb next (length p) ends)
 
-  -- the walk stops behind a right field, and before a wrong one
-  pub stop-part : stop_from (take next p) at ≡ past_field p at
+  -- the walk over them stops behind a right field, and before a wrong one
+  stop-part : stop_from (take next p) at ≡ pick (field_right p at) next at
   stop-part =
       let behind = stop_from-wrong (take next p) next (right_end (take next p) next (omega (arith, length-take-le next p ends))) in
       stop_from-pick (take next p) at ∙ rw (right-part, next-part, behind, is)
 
--- ---- past a right field
+  -- so that it comes to their end exactly if the field is right
+  pub part-right : stop_from (take next p) at ≡ next → T (field_right p at)
+  part-right e =
+      ⊎_elim (λ t. t)
+      (λ w. absurd (omega (arith, next-after p at, sym (pick-false (field_right p at) next at w) ∙ sym stop-part ∙ e)))
+      (decide (field_right p at))
+
+  pub part-wrong : (stop_from (take next p) at ≡ next → ⊥) → field_right p at ≡ false
+  part-wrong n = T_false (field_right p at) (λ t. n (stop-part ∙ pick_true (field_right p at) next at (T_true (field_right p at) t)))
+
+-- ---- past a field
 
 module _ (p : List ℕ) (at : ℕ) where
-  -- the place itself: the field is wrong
-  pub past-none : past_field p at ≡ at → field_right p at ≡ false
-  past-none e =
-      T_false (field_right p at) (λ t. omega (arith, next-after p at, sym (pick_true (field_right p at) (next_at p at) at (T_true (field_right p at) t)) ∙ e))
+  -- there is an end: the field is right, and that is its end
+  pub past_some : (next : ℕ) → Some next ≡ past_field p at → T (field_right p at) × (next ≡ next_at p at)
+  past_some next = by-case (field_right p at)
+    where
+      by-case : (b : Bool) → Some next ≡ pick b (Some (next_at p at)) None → T b × (next ≡ next_at p at)
+      by-case true e = (tt, cc)
+      by-case false e = cc
 
-  -- another: it is right, and ends there
-  pub past-some : (past_field p at ≡ at → ⊥) → T (field_right p at) × (past_field p at ≡ next_at p at)
-  past-some n =
-      ⊎_elim
-      (λ t. (t, pick_true (field_right p at) (next_at p at) at (T_true (field_right p at) t)))
-      (λ e. absurd (n (pick-false (field_right p at) (next_at p at) at e)))
-      (decide (field_right p at))
+  -- there is none: it is a bad one
+  pub past_none : None ≡ past_field p at → field_right p at ≡ false
+  past_none = by-case (field_right p at)
+    where
+      by-case : (b : Bool) → None ≡ pick b (Some (next_at p at)) None → b ≡ false
+      by-case true e = cc
+      by-case false e = refl
 
 -- ---- what stands at a place
 

@@ -2,13 +2,13 @@
 -- field lies. Assumes nothing.
 use mathlib.Core.Path.{◌≡◌, refl, sym, ap, ◌∙◌}
 use mathlib.Core.Logic.{⊎_elim}
-use mathlib.Core.Bool.{Bool, false, ◌&&◌}
+use mathlib.Core.Bool.{Bool, true, false, ◌&&◌}
 use mathlib.Core.List.{List, [], ◌∷◌}
-use Prim.Native.Nat.{ℕ, zero, suc, ◌+◌, ◌%◌, ◌≤◌, ◌<◌}
+use Prim.Native.Nat.{ℕ, zero, suc, ◌+◌, ◌-◌, ◌%◌, ◌≤◌, ◌<◌}
 use native.Mathlib.Numerals.{add-one}
 use native.Mathlib.Omega.{arith}
-use lib.ListN.{length, get_or, take, length-take, drop_of_length-le}
-use lib.Seq.{slice, slice-cons}
+use lib.ListN.{length, get_or, take, drop, drop_of_length-le}
+use lib.Seq.{slice, drop-cons}
 use lib.Dec.{T, leb, ltb, leb→le, ltb→lt}
 use borrow.Author.Tests.{lt-ltb, le-leb, eq-eqb, ne_eqb}
 use Rattle.octets.specs.Choice.{every, pick}
@@ -57,6 +57,12 @@ right-inside p at t =
     let value = value_end-next p at in
     (omega arith, omega arith)
 
+pub right_word : (p : List ℕ) (at : ℕ) → T (field_right p at) → at + 4 ≤ length p
+right_word p at t = (right-inside p at t).0
+
+pub right_value : (p : List ℕ) (at : ℕ) → T (field_right p at) → at + 2 + get_or p (at + 1) 0 ≤ length p
+right_value p at t = (right-inside p at t).1
+
 -- its ID is below 192
 pub right-id : (p : List ℕ) (at : ℕ) → T (field_right p at) → get_or p at 0 < 192
 unfolding field_right
@@ -92,41 +98,48 @@ right_room p at h = wrong-next p at (omega (arith, next-after p at))
 pub right_end : (p : List ℕ) (at : ℕ) → length p ≤ at → field_right p at ≡ false
 right_end p at h = right_room p at (omega arith)
 
--- ---- the padding, octet by octet
+-- ---- the padding
+
+-- the octets from i on decide whether all are zero, where those before are
+module _ (xs : List ℕ) (i : ℕ) where
+  -- a zero: those behind it decide
+  pub zeros-zero : i < length xs → get_or xs i 0 ≡ 0 → zeros (drop i xs) ≡ zeros (drop (i + 1) xs)
+  unfolding zeros
+  zeros-zero h e = rw (add-one, drop-cons xs i 0 h, eq-eqb (get_or xs i 0) 0 e)
+
+  -- another octet
+  pub zeros-other : i < length xs → (get_or xs i 0 ≡ 0 → ⊥) → zeros (drop i xs) ≡ false
+  unfolding zeros
+  zeros-other h n = rw (drop-cons xs i 0 h, ne_eqb (get_or xs i 0) 0 n)
+
+  -- none left
+  pub zeros-none : length xs ≤ i → zeros (drop i xs) ≡ true
+  unfolding zeros
+  zeros-none h = rw (drop_of_length-le xs {i = i} h)
 
 -- the padding stands from the value's end to the next field
 pub padding-slice : (p : List ℕ) (at : ℕ) → padding p at ≡ slice (value_end p at) (next_at p at) p
 unfolding padding
 padding-slice p at = take-drop-slice (value_end p at) (next_at p at) p
 
--- behind the value nothing is looked at yet
-pub padding-all : (p : List ℕ) (at : ℕ) → zeros (slice (at + 2 + get_or p (at + 1) 0) (next_at p at) p) ≡ zeros (padding p at)
-unfolding value_end
-padding-all p at =
-    let start : at + 2 + get_or p (at + 1) 0 ≡ value_end p at = omega arith in
-    rw (start, padding-slice p at)
+module _ (p : List ℕ) (at size : ℕ) (next : at + size ≡ next_at p at) where
+  -- the octets of the field behind its value
+  abbrev pub behind_value : List ℕ
+  behind_value = let end = at + 2 + get_or p (at + 1) 0 in take (at + size - end) (drop end p)
 
--- the field ends in the packet, and the octets from i on decide whether its padding is zero
-module _ (p : List ℕ) (at i : ℕ) (ends : next_at p at ≤ length p) (ahead : zeros (slice i (next_at p at) p) ≡ zeros (padding p at)) where
-  -- a zero: those behind it decide
-  pub padding-zero : i < next_at p at → get_or p i 0 ≡ 0 → zeros (slice (i + 1) (next_at p at) p) ≡ zeros (padding p at)
-  unfolding zeros
-  padding-zero h e =
-      rw (add-one, ← ahead, slice-cons i (next_at p at) p 0 h ends, eq-eqb (get_or p i 0) 0 e)
+  behind-value : behind_value ≡ padding p at
+  unfolding padding value_end
+  behind-value =
+      let end : at + 2 + get_or p (at + 1) 0 ≡ at + (2 + get_or p (at + 1) 0) = omega arith in
+      rw (end, next)
 
-  -- another octet: the field is wrong
-  pub padding-other : i < next_at p at → (get_or p i 0 ≡ 0 → ⊥) → field_right p at ≡ false
-  unfolding zeros
-  padding-other h n =
-      let behind : zeros (slice i (next_at p at) p) ≡ false = rw (slice-cons i (next_at p at) p 0 h ends, ne_eqb (get_or p i 0) 0 n) in
-      T_false (field_right p at) (λ t. false-T (zeros (padding p at)) (sym ahead ∙ behind) (right-padding p at t))
+  -- they are zero: it is right if its ID is, and it ends in the packet
+  pub padding-right : get_or p at 0 < 192 → next_at p at ≤ length p → zeros behind_value ≡ true → T (field_right p at)
+  padding-right h l e = field_right-all p at h l (true-T (zeros (padding p at)) (rw behind-value at e))
 
-  -- none left: it is right if its ID is
-  pub padding-none : next_at p at ≤ i → get_or p at 0 < 192 → T (field_right p at)
-  unfolding zeros
-  padding-none h l =
-      let none : slice i (next_at p at) p ≡ [] = drop_of_length-le (take (next_at p at) p) {i = i} (omega (arith, length-take (next_at p at) p)) in
-      field_right-all p at l ends (true-T (zeros (padding p at)) (sym ahead ∙ ap zeros none))
+  -- they are not
+  pub padding-wrong : zeros behind_value ≡ false → field_right p at ≡ false
+  padding-wrong e = T_false (field_right p at) (λ t. false-T (zeros (padding p at)) (rw behind-value at e) (right-padding p at t))
 
 -- ---- the walk's equations
 
@@ -194,6 +207,18 @@ stop_from-le p =
 -- at a place of a walk that goes to the end: the next one's place
 pub whole-next : (p : List ℕ) (at : ℕ) → stop_from p at ≡ length p → at < length p → (at + 4 ≤ next_at p at) × (next_at p at ≤ length p)
 whole-next p at e h = (next-after p at, right-next p at (stop_from-whole p at e h))
+
+-- so a word stands there, ..
+pub whole_word : (p : List ℕ) (at : ℕ) → stop_from p at ≡ length p → at < length p → at + 4 ≤ length p
+whole_word p at e h = omega (arith, whole-next p at e h)
+
+-- .. and so many octets, a word at least
+pub whole_size : (p : List ℕ) (at size : ℕ) → size ≡ to_word (2 + get_or p (at + 1) 0) → stop_from p at ≡ length p → at < length p → at + size ≤ length p
+whole_size p at size is e h = omega (arith, next-size p at size is, whole-next p at e h)
+
+pub size_least : (n size : ℕ) → size ≡ to_word (2 + n) → 4 ≤ size
+unfolding to_word
+size_least n size is = omega arith
 
 -- what holds of each right field behind the header holds of each field of the packet
 pub every-field : (p : List ℕ) (q : Field → Bool) → ((at : ℕ) → first_field ≤ at → T (field_right p at) → T (q (field_at p at))) → T (every q (fields_of p))

@@ -9,5 +9,5 @@ use Rattle.incoming.proofs.event_of.Goals as goal
 pub returns : goal.returns
 unfolding most_seats
 returns c =
-    let own : sheet_in c.numbers_of-numbers.result ≡ c.args.sheet = sheet_in-own _ _ (search rules) c.numbers_of-numbers.ensures in
+    let own : sheet_in c.numbers_of.result ≡ c.args.sheet = sheet_in-own _ _ (search rules) c.numbers_of.ensures in
     rw own at c.event_lent.ensures

@@ -3,26 +3,27 @@ use mathlib.Core.Path.{◌≡◌, refl, sym, ◌∙◌, subst}
 use mathlib.Core.Bool.{true, false, ◌&&◌}
 use mathlib.Core.List.{List, [], ◌∷◌, ◌++◌, append-nil, append_assoc}
 use mathlib.Core.Option.{none, some}
-use Prim.Native.Nat.{ℕ, zero, suc, ◌+◌, ◌≤◌, ◌<◌}
+use Prim.Native.Nat.{ℕ, ◌+◌, ◌≤◌, ◌<◌}
 use native.Mathlib.Omega.{arith}
 use lib.ListN.{length, get_or, set, replicate}
 use lib.Dec.{T, eqb}
 use borrow.Author.Tests.{eq-eqb, ne_eqb}
+use Rattle.std.specs.Prelude.{Some, None, Ok, Err}
 use Rattle.octets.specs.Choice.{pick, every}
 use Rattle.octets.specs.Big.{big_at}
 use Rattle.octets.proofs.Choice.{T-and-left, every_append}
+use Rattle.sheet.specs.declared.Refusal.TheVariants.{Fields}
 use Rattle.fields.specs.declared.field.Field.{Field}
 use Rattle.fields.specs.Header.{first_field}
 use Rattle.fields.specs.Walk.{next_at, field_right, field_at, fields_from, stop_from, fields_of}
 use Rattle.fields.proofs.Laws.Walk.{next-after, right_end, fields_from-right, fields_from-wrong, stop_from-right, stop_from-whole}
 use Rattle.fields.proofs.Laws.Fields.{coded, every-coded}
 use Rattle.kinds.specs.declared.kind.Slot.{Slot}
-use Rattle.kinds.specs.declared.judge.Use.TheVariants.{Fills, Repeats, Skipped}
 use Rattle.kinds.specs.Judge.{fits, number_at, fields_with, grant_in, granted, at_fault, fault_among, missing_at, first_of, fault_of}
 use Rattle.kinds.specs.Found.{places_in}
-use Rattle.kinds.specs.Inner.{Walked, JudgedIs, PlacesInside, placed, open_in, lack_in}
+use Rattle.kinds.specs.Inner.{Walked, JudgedIs, PlacesInside, open_in, used_in, lack_in}
 use Rattle.kinds.proofs.Laws.Slots.{blank}
-use Rattle.kinds.proofs.Laws.Places.{places-none, inside-places, lack_in-places, use_in, fills-inside, fills-fault, fills-places, repeats-fault, skipped-fault, skipped-places}
+use Rattle.kinds.proofs.Laws.Places.{places-none, inside-places, lack_in-places, open_for, fills-inside, fills-fault, fills-places, closed-fault, closed-places}
 
 -- ---- the first Result among the fields from a place on
 
@@ -67,11 +68,6 @@ judging_first p slots w =
       least = omega arith;
     }
 
--- a place that is not 0
-pub placed-some : (n : ℕ) → 0 < n → placed n ≡ some n
-placed-some zero h = absurd (omega arith)
-placed-some (suc n) h = refl
-
 module _ {p : List ℕ} {slots : List Slot} {places : List ℕ} {at : ℕ} (j : Judging p slots places at) where
   -- they are fields of the packet
   judging-coded : T (every (coded p) j.before)
@@ -107,46 +103,45 @@ module _ {p : List ℕ} {slots : List Slot} {places : List ℕ} {at : ℕ} (j : 
         }
 
     -- it is at fault, and the first
-    judged-fault : at_fault p slots j.before (field_at p at) ≡ true → JudgedIs p slots (record { fault = at; places = places })
+    judged-fault : at_fault p slots j.before (field_at p at) ≡ true → JudgedIs p slots (Err Fields)
     unfolding fault_of first_of fault_among field_at
-    judged-fault e =
-        record {
-          fault = rw (j.judged, judging-fields, e) (sym (placed-some at (omega (arith, j.least))));
-          places = λ z. absurd (omega (arith, j.least));
-          inside = judging-inside (omega (arith, j.least));
-        }
+    judged-fault e = ((at, rw (j.judged, judging-fields, e)), refl)
 
-    -- what it is for
-    judging-use : use_in slots j.before (field_at p at) ≡ open_in slots places (get_or p at 0)
+    -- the first open slot with its ID
+    judging-open : open_for slots j.before (field_at p at) ≡ open_in slots places (get_or p at 0)
     unfolding field_at
-    judging-use = rw j.theirs
+    judging-open = rw j.theirs
 
-    module _ (i : ℕ) (e : open_in slots places (get_or p at 0) ≡ Fills i) where
+    module _ (i : ℕ) (e : open_in slots places (get_or p at 0) ≡ Some i) where
       -- it fills a slot that there is
       pub judging-slot : i < length slots
-      judging-slot = fills-inside p slots j.before (field_at p at) judging-coded i (judging-use ∙ e)
+      judging-slot = fills-inside p slots j.before (field_at p at) judging-coded i (judging-open ∙ e)
 
       -- and has its form
       pub judging-fills : fits (get_or slots i blank).form p (field_at p at) ≡ true → Judging p slots (set places i at) (next_at p at)
       judging-fills q =
           judging-next (set places i at)
-          (fills-fault p slots j.before (field_at p at) judging-coded i (judging-use ∙ e) ∙ rw q)
-          (fills-places p slots j.before (field_at p at) judging-coded i (judging-use ∙ e) ∙ unfold field_at in rw j.theirs)
+          (fills-fault p slots j.before (field_at p at) judging-coded i (judging-open ∙ e) ∙ rw q)
+          (fills-places p slots j.before (field_at p at) judging-coded i (judging-open ∙ e) ∙ unfold field_at in rw j.theirs)
 
       -- and does not have it
-      pub judged-wrong : fits (get_or slots i blank).form p (field_at p at) ≡ false → JudgedIs p slots (record { fault = at; places = places })
-      judged-wrong q = judged-fault (fills-fault p slots j.before (field_at p at) judging-coded i (judging-use ∙ e) ∙ rw q)
+      pub judged-wrong : fits (get_or slots i blank).form p (field_at p at) ≡ false → JudgedIs p slots (Err Fields)
+      judged-wrong q = judged-fault (fills-fault p slots j.before (field_at p at) judging-coded i (judging-open ∙ e) ∙ rw q)
 
-    -- it is a repeat
-    pub judged-repeat : open_in slots places (get_or p at 0) ≡ Repeats → JudgedIs p slots (record { fault = at; places = places })
-    judged-repeat e = judged-fault (repeats-fault p slots j.before (field_at p at) judging-coded (judging-use ∙ e))
+    module _ (e : open_in slots places (get_or p at 0) ≡ None) where
+      judging-closed : at_fault p slots j.before (field_at p at) ≡ used_in slots (get_or p at 0)
+      unfolding field_at
+      judging-closed = closed-fault p slots j.before (field_at p at) judging-coded (judging-open ∙ e)
 
-    -- the message has no use for it
-    pub judging-skips : open_in slots places (get_or p at 0) ≡ Skipped → Judging p slots places (next_at p at)
-    judging-skips e =
-        judging-next places
-        (skipped-fault p slots j.before (field_at p at) judging-coded (judging-use ∙ e))
-        (skipped-places p slots j.before (field_at p at) judging-coded (judging-use ∙ e) ∙ sym j.theirs)
+      -- it is a repeat
+      pub judged-repeat : used_in slots (get_or p at 0) ≡ true → JudgedIs p slots (Err Fields)
+      judged-repeat q = judged-fault (judging-closed ∙ q)
+
+      -- the message has no use for it
+      pub judging-skips : used_in slots (get_or p at 0) ≡ false → Judging p slots places (next_at p at)
+      judging-skips q =
+          judging-next places (judging-closed ∙ q)
+          (closed-places p slots j.before (field_at p at) judging-coded (judging-open ∙ e) ∙ sym j.theirs)
 
   module _ (h : length p ≤ at) (l : first_field ≤ length p) where
     -- the end is reached: all fields are judged
@@ -160,19 +155,9 @@ module _ {p : List ℕ} {slots : List Slot} {places : List ℕ} {at : ℕ} (j : 
         rw (j.judged, fields_from-wrong p at (right_end p at h), ← judging-all, j.theirs, lack_in-places p j.before judging-coded slots)
 
     -- one is
-    pub judged-lacking : lack_in slots places ≡ true → JudgedIs p slots (record { fault = length p; places = places })
-    judged-lacking e =
-        record {
-          fault = judging-end ∙ rw e (sym (placed-some (length p) (omega arith)));
-          places = λ z. absurd (omega arith);
-          inside = judging-inside l;
-        }
+    pub judged-lacking : lack_in slots places ≡ true → JudgedIs p slots (Err Fields)
+    judged-lacking e = ((length p, judging-end ∙ rw e), refl)
 
     -- none is
-    pub judged-right : lack_in slots places ≡ false → JudgedIs p slots (record { fault = 0; places = places })
-    judged-right e =
-        record {
-          fault = judging-end ∙ rw e;
-          places = λ z. rw (← judging-all) j.theirs;
-          inside = judging-inside l;
-        }
+    pub judged-right : lack_in slots places ≡ false → JudgedIs p slots (Ok places)
+    judged-right e = (judging-end ∙ rw e, rw (← judging-all) j.theirs, judging-inside l)

@@ -2,7 +2,7 @@
 -- is the one that the field fills next, and tells whether it is at fault. Assumes nothing.
 use mathlib.Core.Path.{◌≡◌, refl, sym, ap, ◌∙◌}
 use mathlib.Core.Logic.{⊎_elim}
-use mathlib.Core.Bool.{Bool, true, false, not}
+use mathlib.Core.Bool.{Bool, true, false, not, and-true}
 use mathlib.Core.List.{List, [], ◌∷◌, ◌++◌, map}
 use mathlib.Core.Option.{Option, none, some}
 use Prim.Native.Nat.{ℕ, zero, suc, ◌+◌, ◌≤◌, ◌<◌, zero-le, suc-le-suc}
@@ -12,6 +12,9 @@ use native.Mathlib.Omega.{arith}
 use lib.ListN.{length, get_or, set, replicate, get_elem?, length-append}
 use lib.Dec.{T, leb, eqb, eqb_refl, leb-zero, leb-suc-zero, leb-suc-suc, le→leb, leb→le}
 use borrow.Author.Tests.{eqb-true, ne_eqb, le-leb, lt-leb}
+use Rattle.std.specs.Prelude.{Some, None}
+use Rattle.std.specs.Prelude.{Option as Maybe}
+use Rattle.std.specs.Option.{option_map}
 use Rattle.octets.specs.Choice.{pick, every, some_of}
 use Rattle.octets.proofs.Choice.{T_true, decide, T_and, T-and-left, T-and-right, every-get_or}
 use Rattle.octets.proofs.Lists.{getElem?-snoc, getElem?-snoc-other}
@@ -22,13 +25,11 @@ use Rattle.fields.proofs.Laws.Fields.{coded, coded_says}
 use Rattle.kinds.specs.declared.kind.Form.{Form}
 use Rattle.kinds.specs.declared.kind.Form.TheVariants.{Barred}
 use Rattle.kinds.specs.declared.kind.Slot.{Slot}
-use Rattle.kinds.specs.declared.judge.Use.{Use}
-use Rattle.kinds.specs.declared.judge.Use.TheVariants.{Fills, Repeats, Skipped}
 use Rattle.kinds.specs.Judge.{fits, fields_with, slots_with, form_for, at_fault, Filled, filled_behind, filled_in, is_absent, lacking}
 use Rattle.kinds.specs.Found.{place_of, places_in}
-use Rattle.kinds.specs.Inner.{PlacesInside, open_in, lack_in, later, again}
-use Rattle.kinds.proofs.Laws.Judging.{in_use, slots_with-none}
-use Rattle.kinds.proofs.Laws.Slots.{blank}
+use Rattle.kinds.specs.Inner.{PlacesInside, open_in, used_in, lack_in}
+use Rattle.kinds.proofs.Laws.Judging.{in_use}
+use Rattle.kinds.proofs.Laws.Slots.{blank, open_in-cons, used_in-some}
 
 -- ---- how many slots and fields have an ID
 
@@ -129,7 +130,7 @@ module _ (p : List ℕ) where
         ∙ ap (λ (i : ℕ). leb (field_count i fs) (slot_count i earlier)) e
 
     lack_in-behind : (earlier slots : List Slot) → lack_in slots (places_behind earlier slots fs) ≡ some_of lacking (filled_behind earlier slots fs)
-    unfolding lack_in filled_behind lacking
+    unfolding filled_behind lacking
     lack_in-behind earlier [] = refl
     lack_in-behind earlier (s ∷ slots) = rw (place-absent earlier s, lack_in-behind (earlier ++ (s ∷ [])) slots)
 
@@ -199,7 +200,7 @@ module _ (fs : List Field) (f : Field) where
       (λ e. cc (rest, place_other earlier s e))
       (decide (eqb s.id f.id))
 
--- ---- what each use of a field says
+-- ---- what the first open slot with a field's ID says
 
 module _ (fs : List Field) (f : Field) where
   -- the form of the slot with its ID behind m others
@@ -214,23 +215,17 @@ module _ (fs : List Field) (f : Field) where
     pub places : places_behind earlier slots (fs ++ (f ∷ [])) ≡ set (places_behind earlier slots fs) i f.at
 
   -- there are no more than m
-  record Repeating (slots : List Slot) (m : ℕ) : Type 0 where
-    pub used : in_use f.id slots ≡ true
+  record Closed (earlier slots : List Slot) (m : ℕ) : Type 0 where
     pub form : form_at slots m ≡ Barred
-
-  -- there are none
-  record Skipping (earlier slots : List Slot) : Type 0 where
-    pub unused : in_use f.id slots ≡ false
     pub places : places_behind earlier slots (fs ++ (f ∷ [])) ≡ places_behind earlier slots fs
 
-  abbrev Means : List Slot → List Slot → ℕ → Use → Type 0
-  Means earlier slots m (Fills i) = Filling earlier slots m i
-  Means earlier slots m Repeats = Repeating slots m
-  Means earlier slots m Skipped = Skipping earlier slots
+  abbrev Means : List Slot → List Slot → ℕ → Maybe ℕ → Type 0
+  Means earlier slots m (Some i) = Filling earlier slots m i
+  Means earlier slots m None = Closed earlier slots m
 
   module _ (earlier : List Slot) (s : Slot) (slots : List Slot) where
     -- the first slot has its ID and is open
-    means-open : eqb s.id f.id ≡ true → field_count f.id fs ≡ slot_count f.id earlier → Means earlier (s ∷ slots) 0 (Fills 0)
+    means-open : eqb s.id f.id ≡ true → field_count f.id fs ≡ slot_count f.id earlier → Means earlier (s ∷ slots) 0 (Some 0)
     unfolding filled_behind slots_with
     means-open e n =
         let one = slot_count-own f.id earlier s e in
@@ -242,23 +237,22 @@ module _ (fs : List Field) (f : Field) where
         }
 
     -- it has its ID and is filled
-    means-again : (m : ℕ) (u : Use) → eqb s.id f.id ≡ true → (field_count f.id fs ≡ slot_count f.id earlier → ⊥)
-        → Means (earlier ++ (s ∷ [])) slots m u → Means earlier (s ∷ slots) (suc m) (again u)
+    means-again : (m : ℕ) (u : Maybe ℕ) → eqb s.id f.id ≡ true → (field_count f.id fs ≡ slot_count f.id earlier → ⊥)
+        → Means (earlier ++ (s ∷ [])) slots m u → Means earlier (s ∷ slots) (suc m) (option_map suc u)
     unfolding filled_behind slots_with
-    means-again m (Fills i) e n h =
+    means-again m (Some i) e n h =
         record {
           inside = suc-le-suc h.inside;
           used = rw e;
           form = rw e h.form;
           places = cc (place-past fs f earlier s e n, h.places);
         }
-    means-again m Repeats e n h = record { used = rw e; form = rw e h.form }
-    means-again m Skipped e n h = record { used = rw e; form = rw (e, slots_with-none f.id slots h.unused) }
+    means-again m None e n h = record { form = rw e h.form; places = cc (place-past fs f earlier s e n, h.places) }
 
     -- so it is open exactly if none is filled
-    means-own : (m : ℕ) (u : Use) → eqb s.id f.id ≡ true → field_count f.id fs ≡ slot_count f.id earlier + m
+    means-own : (m : ℕ) (u : Maybe ℕ) → eqb s.id f.id ≡ true → field_count f.id fs ≡ slot_count f.id earlier + m
         → ((k : ℕ) → field_count f.id fs ≡ slot_count f.id (earlier ++ (s ∷ [])) + k → Means (earlier ++ (s ∷ [])) slots k u)
-        → Means earlier (s ∷ slots) m (pick (leb (field_count f.id fs) (slot_count f.id earlier)) (Fills 0) (again u))
+        → Means earlier (s ∷ slots) m (pick (leb (field_count f.id fs) (slot_count f.id earlier)) (Some 0) (option_map suc u))
     means-own zero u e n rest =
         rw (le-leb (field_count f.id fs) (slot_count f.id earlier) (omega arith)) (means-open e (omega arith))
     means-own (suc m) u e n rest =
@@ -266,72 +260,64 @@ module _ (fs : List Field) (f : Field) where
         (means-again m u e (λ q. omega arith) (rest m (omega (arith, slot_count-own f.id earlier s e))))
 
     -- it has another
-    means-later : (m : ℕ) (u : Use) → eqb s.id f.id ≡ false → Means (earlier ++ (s ∷ [])) slots m u → Means earlier (s ∷ slots) m (later u)
+    means-later : (m : ℕ) (u : Maybe ℕ) → eqb s.id f.id ≡ false → Means (earlier ++ (s ∷ [])) slots m u → Means earlier (s ∷ slots) m (option_map suc u)
     unfolding filled_behind slots_with
-    means-later m (Fills i) e h =
+    means-later m (Some i) e h =
         record {
           inside = suc-le-suc h.inside;
           used = rw e h.used;
           form = rw e h.form;
           places = cc (place_other fs f earlier s e, h.places);
         }
-    means-later m Repeats e h = record { used = rw e h.used; form = rw e h.form }
-    means-later m Skipped e h = record { unused = rw e h.unused; places = cc (place_other fs f earlier s e, h.places) }
+    means-later m None e h = record { form = rw e h.form; places = cc (place_other fs f earlier s e, h.places) }
 
   module _ (p : List ℕ) (t : T (every (coded p) fs)) where
-    -- what the first open slot with its ID says
     means-open_in : (slots earlier : List Slot) (m : ℕ) → field_count f.id fs ≡ slot_count f.id earlier + m
         → Means earlier slots m (open_in slots (places_behind earlier slots fs) f.id)
-    unfolding open_in filled_behind
-    means-open_in [] earlier m n = record { unused = refl; places = refl }
+    unfolding filled_behind slots_with
+    means-open_in [] earlier m n = record { form = refl; places = refl }
     means-open_in (s ∷ slots) earlier m n =
         let next = open_in slots (places_behind (earlier ++ (s ∷ [])) slots fs) f.id in
         let rest = means-open_in slots (earlier ++ (s ∷ [])) in
-        ⊎_elim
+        rw (open_in-cons s slots (place earlier s fs) (places_behind (earlier ++ (s ∷ [])) slots fs) f.id)
+        (⊎_elim
         (λ own.
         let e = T_true (eqb s.id f.id) own in
         rw (e, place-open p fs t earlier s f.id (eqb-true s.id f.id e)) (means-own earlier s slots m next e n rest))
         (λ e. rw e (means-later earlier s slots m next e (rest m (n ∙ rw (slot_count-other f.id earlier s e)))))
-        (decide (eqb s.id f.id))
+        (decide (eqb s.id f.id)))
 
--- ---- a field and the use of it
-
--- what a field behind others is for
-abbrev pub use_in : List Slot → List Field → Field → Use
-use_in slots fs f = open_in slots (places_in slots fs) f.id
+-- the first open slot for a field behind others
+abbrev pub open_for : List Slot → List Field → Field → Maybe ℕ
+open_for slots fs f = open_in slots (places_in slots fs) f.id
 
 module _ (p : List ℕ) (slots : List Slot) (fs : List Field) (f : Field) (t : T (every (coded p) fs)) where
-  use-means : (u : Use) → use_in slots fs f ≡ u → Means fs f [] slots (field_count f.id fs) u
+  open_means : (u : Maybe ℕ) → open_for slots fs f ≡ u → Means fs f [] slots (field_count f.id fs) u
   unfolding places_in filled_in slots_with
-  use-means u e = rw e at (means-open_in fs f p t slots [] (field_count f.id fs) (sym (zero-add (field_count f.id fs))))
+  open_means u e = rw e at (means-open_in fs f p t slots [] (field_count f.id fs) (sym (zero-add (field_count f.id fs))))
 
-  module _ (i : ℕ) (e : use_in slots fs f ≡ Fills i) where
-    -- the slot that it fills
+  module _ (i : ℕ) (e : open_for slots fs f ≡ Some i) where
+    -- there is that slot
     pub fills-inside : i < length slots
-    fills-inside = (use-means (Fills i) e).inside
+    fills-inside = (open_means (Some i) e).inside
 
     -- it is at fault exactly if it does not have the slot's form
     pub fills-fault : at_fault p slots fs f ≡ not (fits (get_or slots i blank).form p f)
     unfolding at_fault form_for
-    fills-fault = rw ((use-means (Fills i) e).used, (use-means (Fills i) e).form)
+    fills-fault = rw ((open_means (Some i) e).used, (open_means (Some i) e).form)
 
     -- its place is the slot's
     pub fills-places : places_in slots (fs ++ (f ∷ [])) ≡ set (places_in slots fs) i f.at
     unfolding places_in filled_in
-    fills-places = (use-means (Fills i) e).places
+    fills-places = (open_means (Some i) e).places
 
-  -- a repeat is at fault
-  pub repeats-fault : use_in slots fs f ≡ Repeats → at_fault p slots fs f ≡ true
-  unfolding at_fault form_for fits
-  repeats-fault e = rw ((use-means Repeats e).used, (use-means Repeats e).form)
+  -- none: it is at fault exactly if the message has a use for it, ..
+  module _ (e : open_for slots fs f ≡ None) where
+    pub closed-fault : at_fault p slots fs f ≡ used_in slots f.id
+    unfolding at_fault form_for fits
+    closed-fault = rw (used_in-some slots f.id, (open_means None e).form, and-true)
 
-  module _ (e : use_in slots fs f ≡ Skipped) where
-    -- a field that the message has no use for is not
-    pub skipped-fault : at_fault p slots fs f ≡ false
-    unfolding at_fault
-    skipped-fault = rw (use-means Skipped e).unused
-
-    -- and has no place
-    pub skipped-places : places_in slots (fs ++ (f ∷ [])) ≡ places_in slots fs
+    -- .. and has no place
+    pub closed-places : places_in slots (fs ++ (f ∷ [])) ≡ places_in slots fs
     unfolding places_in filled_in
-    skipped-places = (use-means Skipped e).places
+    closed-places = (open_means None e).places

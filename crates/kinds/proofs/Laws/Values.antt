@@ -1,10 +1,10 @@
 -- The values that the code makes from places are those that the message holds (`values-read`), and the slots that fill a kind's up to
 -- three change nothing (`fault-numbered`). Assumes nothing.
 use mathlib.Core.Path.{◌≡◌, refl, sym, ap, ◌∙◌, subst}
-use mathlib.Core.Bool.{Bool, true, false, ◌&&◌}
+use mathlib.Core.Bool.{Bool, true, false}
 use mathlib.Core.List.{List, map}
 use mathlib.Core.Option.{Option, none, some, some-injective}
-use Prim.Native.Nat.{ℕ, ◌+◌, ◌≤◌, ◌<◌}
+use Prim.Native.Nat.{ℕ, ◌+◌, ◌≤◌}
 use native.Mathlib.Omega.{arith}
 use lib.ListN.{get_or}
 use lib.Dec.{T, eqb, leb, leb→le, eqb→eq, lit≤}
@@ -20,13 +20,15 @@ use Rattle.fields.proofs.Laws.Fields.{coded, coded_says, fields_of-high}
 use Rattle.kinds.specs.declared.Numbers.{Numbers}
 use Rattle.kinds.specs.declared.kind.Form.{Form}
 use Rattle.kinds.specs.declared.kind.Form.TheVariants.{UserId, Number, Cause, Result, MessageType}
+use Rattle.kinds.specs.declared.kind.Kind.{Kind as MessageKind}
+use Rattle.kinds.specs.declared.kind.Kind.TheVariants.{ReceiveRequest, ReceiveResponse, EndRequest, EndResponse, TransmissionEnd, TransmissionEndResponse, Ack}
 use Rattle.kinds.specs.declared.kind.Slot.{Slot}
 use Rattle.kinds.specs.Kind.{unless_granted, row, Kind, kinds, settled, slots_of}
 use Rattle.kinds.specs.Judge.{Held, absent, given, number_at, fits, held_in, slots_with, grant_in, granted, filled_behind, filled_in, fault_of, held_by}
 use Rattle.kinds.specs.Reading.{refused, reads, slots_in, message_of, read_as}
-use Rattle.kinds.specs.Found.{kind_numbered, no_slot, slots_by, slots_numbered, place_of, places_in}
+use Rattle.kinds.specs.Found.{kind_number, kind_numbered, no_slot, slots_by, slots_numbered, place_of, places_in}
 use Rattle.kinds.specs.Inner.{number_from, name_from, indicator_from, result_from, cause_from, values_from}
-use Rattle.kinds.proofs.Laws.Kinds.{of_seven, kind_numbered-some, kind_numbered-kind, slots_of-granted}
+use Rattle.kinds.proofs.Laws.Kinds.{kind_numbered-some, kind_numbered-kind}
 use Rattle.kinds.proofs.Laws.Sound.{filled, Sound, AllSound, fault-sound}
 use Rattle.kinds.proofs.Laws.Unused.{Apart, fault_of-padded, places_in-padded}
 
@@ -116,25 +118,28 @@ module _ (p : List ℕ) where
         → values_from kind p (places_in (slots_here k) fs) ≡ map (held_by p) (filled_in (slots_here k) fs)
 
     -- so they do in each kind
-    values_from-held : (kind : ℕ) → 0 < kind → kind < 8 → (k : Kind) → kind_numbered n kind ≡ some k → Reads kind k
+    values_from-held : (kind : MessageKind) (k : Kind) → kind_numbered n (kind_number kind) ≡ some k → Reads (kind_number kind) k
     unfolding kind_numbered kinds slots_of settled filled_in filled_behind places_in values_from held_in
-    values_from-held =
-        of_seven (λ kind. (k : Kind) → kind_numbered n kind ≡ some k → Reads kind k)
-        (λ k e. subst (Reads 1) (some-injective _ k e)
-        (λ s. rw (name-held _ s.0, name-held _ s.1.0, indicator-held _ s.1.1.0)))
-        (λ k e. subst (Reads 2) (some-injective _ k e)
+    values_from-held ReceiveRequest k e =
+        subst (Reads 1) (some-injective _ k e)
+        (λ s. rw (name-held _ s.0, name-held _ s.1.0, indicator-held _ s.1.1.0))
+    values_from-held ReceiveResponse k e =
+        subst (Reads 2) (some-injective _ k e)
         (λ s. unfold granted slots_with in
-        rw (result-held n.resultid _ s.0, verdict-held n.resultid _ _ s.0 s.1.0, indicator-held _ s.1.1.0)))
-        (λ k e. subst (Reads 3) (some-injective _ k e)
-        (λ s. rw (name-held _ s.0, indicator-held _ s.1.0)))
-        (λ k e. subst (Reads 4) (some-injective _ k e)
-        (λ s. rw (name-held _ s.0)))
-        (λ k e. subst (Reads 5) (some-injective _ k e)
-        (λ s. rw (number-held 2 Cause (λ f. refl) _ s.0, indicator-held _ s.1.0)))
-        (λ k e. subst (Reads 6) (some-injective _ k e)
-        (λ s. refl))
-        (λ k e. subst (Reads 7) (some-injective _ k e)
-        (λ s. rw (number-held 10 Number (λ f. refl) _ s.0, type-held _ s.1.0)))
+        rw (result-held n.resultid _ s.0, verdict-held n.resultid _ _ s.0 s.1.0, indicator-held _ s.1.1.0))
+    values_from-held EndRequest k e =
+        subst (Reads 3) (some-injective _ k e)
+        (λ s. rw (name-held _ s.0, indicator-held _ s.1.0))
+    values_from-held EndResponse k e =
+        subst (Reads 4) (some-injective _ k e)
+        (λ s. rw (name-held _ s.0))
+    values_from-held TransmissionEnd k e =
+        subst (Reads 5) (some-injective _ k e)
+        (λ s. rw (number-held 2 Cause (λ f. refl) _ s.0, indicator-held _ s.1.0))
+    values_from-held TransmissionEndResponse k e = subst (Reads 6) (some-injective _ k e) (λ s. refl)
+    values_from-held Ack k e =
+        subst (Reads 7) (some-injective _ k e)
+        (λ s. rw (number-held 10 Number (λ f. refl) _ s.0, type-held _ s.1.0))
 
 -- places filled up with 0 have the same values
 values_from-padded : (kind : ℕ) (p : List ℕ) (m : ℕ) (places : List ℕ) → values_from kind p (padded m 0 places) ≡ values_from kind p places
@@ -143,61 +148,59 @@ values_from-padded kind p m places = simp get_or-padded
 
 -- ---- judging and the message joined
 
-module _ (n : Numbers) (p : List ℕ) (kind : ℕ) (above : 0 < kind) (below : kind < 8) (k : Kind) (numbered : kind_numbered n kind ≡ some k) where
+module _ (n : Numbers) (p : List ℕ) (kind : MessageKind) where
   -- whether the packet's Result is 1
-  abbrev grant : Bool
+  abbrev pub grant : Bool
   grant = granted p n.resultid (fields_of p)
 
-  -- the slots that the code hands to judging are those of the kind ..
-  pub slots_numbered-granted : slots_numbered n kind (eqb kind 2 && grant) ≡ slots_numbered n kind grant
-  unfolding slots_numbered
-  slots_numbered-granted = rw (numbered, slots_of-granted n grant kind above below k numbered)
-
-  -- .. filled up to three
-  slots_numbered-padded : slots_numbered n kind (eqb kind 2 && grant) ≡ padded 3 no_slot (slots_of grant k)
-  slots_numbered-padded = slots_numbered-granted ∙ (unfold slots_numbered in rw numbered)
-
-  -- no field has the ID of those that fill up
-  unused : Apart 256 (fields_of p)
-  unused = fields_of-high p 256 (lit≤ tt)
-
-  -- they find the same fault
-  pub fault-numbered : fault_of p (slots_numbered n kind (eqb kind 2 && grant)) (fields_of p) ≡ fault_of p (slots_of grant k) (fields_of p)
-  fault-numbered = rw slots_numbered-padded (fault_of-padded no_slot refl (fields_of p) unused p 3 (slots_of grant k))
-
-  -- where there is none, the values by the places of their fields are what the message holds
-  pub values-read : fault_of p (slots_of grant k) (fields_of p) ≡ none
-      → values_from kind p (places_in (slots_numbered n kind (eqb kind 2 && grant)) (fields_of p)) ≡ map (held_by p) (filled_in (slots_of grant k) (fields_of p))
-  values-read e =
-      rw (slots_numbered-padded, places_in-padded no_slot refl (fields_of p) unused 3 (slots_of grant k), values_from-padded)
-      (values_from-held p n (fields_of p) kind above below k numbered (fault-sound p (slots_of grant k) e))
-
--- a packet of the kind whose walk is not whole: 4
-pub read_as-cut : (n : Numbers) (p : List ℕ) (kind : ℕ) → 0 < kind → kind < 8 → whole p ≡ false → read_as n p (kind_numbered n kind) ≡ refused 4 0
-unfolding read_as
-read_as-cut n p kind above below e = rw ((kind_numbered-some n kind above below).1, e)
-
-module _ (n : Numbers) (p : List ℕ) (kind : ℕ) (above : 0 < kind) (below : kind < 8) (right : T (whole p)) where
   -- the slots that the code hands to judging
-  abbrev handed : List Slot
-  handed = slots_numbered n kind (eqb kind 2 && granted p n.resultid (fields_of p))
+  abbrev pub handed : List Slot
+  handed = slots_numbered n (kind_number kind) grant
 
-  -- a packet of the kind whose walk is whole reads to a message or to 5, by the fault that judging finds
-  read_as-fault : read_as n p (kind_numbered n kind)
-      ≡ message_of p kind (slots_by (granted p n.resultid (fields_of p)) (kind_numbered n kind)) (fault_of p handed (fields_of p))
-  unfolding read_as slots_in
-  read_as-fault =
-      let k = kind_numbered-some n kind above below in
-      rw (fault-numbered n p kind above below k.0 k.1, k.1, T_true (whole p) right, kind_numbered-kind n kind above below k.0 k.1)
+  module _ (k : Kind) (numbered : kind_numbered n (kind_number kind) ≡ some k) where
+    -- they are those of the kind, filled up to three
+    slots_numbered-padded : handed ≡ padded 3 no_slot (slots_of grant k)
+    unfolding slots_numbered
+    slots_numbered-padded = rw numbered
 
-  -- a fault: 5
-  pub read_as-faulty : (at : ℕ) → fault_of p handed (fields_of p) ≡ some at → read_as n p (kind_numbered n kind) ≡ refused 5 0
-  read_as-faulty at e = read_as-fault ∙ (unfold message_of in rw e)
+    -- no field has the ID of those that fill up
+    unused : Apart 256 (fields_of p)
+    unused = fields_of-high p 256 (lit≤ tt)
 
-  -- none: the values by the places of their fields
-  pub read_as-right : fault_of p handed (fields_of p) ≡ none
-      → read_as n p (kind_numbered n kind) ≡ reads kind (ssrc_in p) (ack_asked p) (values_from kind p (places_in handed (fields_of p)))
-  read_as-right e =
-      let k = kind_numbered-some n kind above below in
-      let fault = fault-numbered n p kind above below k.0 k.1 in
-      read_as-fault ∙ (unfold message_of in rw (e, k.1, values-read n p kind above below k.0 k.1 (sym fault ∙ e)))
+    -- they find the same fault
+    fault-numbered : fault_of p handed (fields_of p) ≡ fault_of p (slots_of grant k) (fields_of p)
+    fault-numbered = rw slots_numbered-padded (fault_of-padded no_slot refl (fields_of p) unused p 3 (slots_of grant k))
+
+    -- where there is none, the values by the places of their fields are what the message holds
+    values-read : fault_of p (slots_of grant k) (fields_of p) ≡ none
+        → values_from (kind_number kind) p (places_in handed (fields_of p)) ≡ map (held_by p) (filled_in (slots_of grant k) (fields_of p))
+    values-read e =
+        rw (slots_numbered-padded, places_in-padded no_slot refl (fields_of p) unused 3 (slots_of grant k), values_from-padded)
+        (values_from-held p n (fields_of p) kind k numbered (fault-sound p (slots_of grant k) e))
+
+  -- a packet of the kind whose walk is not whole: 4
+  pub read_as-cut : whole p ≡ false → read_as n p (kind_numbered n (kind_number kind)) ≡ refused 4 0
+  unfolding read_as
+  read_as-cut e = rw ((kind_numbered-some n kind).1, e)
+
+  module _ (right : T (whole p)) where
+    -- a packet of the kind whose walk is whole reads to a message or to 5, by the fault that judging finds
+    read_as-fault : read_as n p (kind_numbered n (kind_number kind))
+        ≡ message_of p (kind_number kind) (slots_by grant (kind_numbered n (kind_number kind))) (fault_of p handed (fields_of p))
+    unfolding read_as slots_in
+    read_as-fault =
+        let k = kind_numbered-some n kind in
+        rw (fault-numbered k.0 k.1, k.1, T_true (whole p) right, kind_numbered-kind n kind k.0 k.1)
+
+    -- a fault: 5
+    pub read_as-faulty : (at : ℕ) → fault_of p handed (fields_of p) ≡ some at → read_as n p (kind_numbered n (kind_number kind)) ≡ refused 5 0
+    read_as-faulty at e = read_as-fault ∙ (unfold message_of in rw e)
+
+    -- none: the values by the places of their fields
+    pub read_as-right : fault_of p handed (fields_of p) ≡ none
+        → read_as n p (kind_numbered n (kind_number kind))
+        ≡ reads (kind_number kind) (ssrc_in p) (ack_asked p) (values_from (kind_number kind) p (places_in handed (fields_of p)))
+    read_as-right e =
+        let k = kind_numbered-some n kind in
+        let fault = fault-numbered k.0 k.1 in
+        read_as-fault ∙ (unfold message_of in rw (e, k.1, values-read k.0 k.1 (sym fault ∙ e)))

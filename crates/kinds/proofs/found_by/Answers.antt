@@ -1,85 +1,91 @@
 -- `kinds::found_by` meets its contract: the checks in their order, each with the refusal that `read_by` gives there.
 -- Assumes nothing.
-use mathlib.Core.Path.{◌≡◌, sym, ◌∙◌}
+use mathlib.Core.Path.{◌≡◌, refl, sym, ◌∙◌}
 use mathlib.Core.List.{List}
 use Prim.Native.Nat.{ℕ, ◌≤◌, ◌<◌}
-use native.Mathlib.Nat.{pos_of_ne-zero, le_antisymm}
-use borrow.Author.Tests.{ne_eqb}
+use native.Mathlib.Nat.{le_antisymm}
 use native.Mathlib.Omega.{arith}
+use borrow.Author.Tests.{ne_eqb}
 use lib.ListN.{length}
-use Rattle.fields.specs.Header.{first_field, failed_check}
+use Rattle.std.specs.Prelude.{Option, Some, None, ok_or, Ok, Err}
+use Rattle.std.proofs.lemmas.Result.{err_from_is_err_and}
+use Rattle.sheet.specs.declared.Refusal.{Refusal}
+use Rattle.sheet.specs.declared.Refusal.TheVariants.{Kind as NoKind, Layout}
+use Rattle.fields.specs.Header.{first_field, checked}
 use Rattle.fields.specs.Walk.{stop_from, whole}
-use Rattle.fields.specs.Claims.{Headed}
 use Rattle.fields.proofs.Laws.Sized.{sized}
-use Rattle.fields.proofs.Laws.Checks.{failed_check-exactly}
+use Rattle.fields.proofs.Laws.Checks.{checked_ok}
 use Rattle.fields.proofs.Laws.Walk.{stop_from-le}
+use Rattle.kinds.specs.declared.kind.Kind.{Kind}
 use Rattle.kinds.specs.declared.Numbers.{Numbers}
 use Rattle.kinds.specs.Kind.{kind_of}
 use Rattle.kinds.specs.Reading.{read_as, read_by}
-use Rattle.kinds.specs.Found.{kind_numbered}
-use Rattle.kinds.proofs.Laws.Found.{none_found_lem}
+use Rattle.kinds.specs.Inner.{row_found}
+use Rattle.kinds.proofs.Laws.Found.{none_found}
 use Rattle.kinds.proofs.Laws.Reading.{read_by-past, read_by-failed}
 use Rattle.kinds.proofs.Laws.Values.{read_as-cut}
 use Rattle.kinds.proofs.found_by.Goals as goal
 
--- the packet past checks 1 and 2
-past : (p : List ℕ) (failed : ℕ) → failed ≡ failed_check p → failed ≡ 0 → Headed p
-past p failed e z = (failed_check-exactly p).0.0 (sym e ∙ z)
+-- no kind was found, ..
+no_kind : (o : Option Kind) (r : Refusal) → ok_or o NoKind ≡ Err r → (o ≡ None) × (r ≡ NoKind)
+no_kind (Some k) r e = cc
+no_kind None r e = (refl, cc)
 
--- there the kind decides
-past_head : (n : Numbers) (p : List ℕ) → Headed p → (kind : ℕ) → kind_of n p ≡ kind_numbered n kind → read_by n p ≡ read_as n p (kind_numbered n kind)
-past_head n p h kind e = rw (read_by-past n p h, e)
+-- .. or this one
+one_kind : (o : Option Kind) (kind : Kind) → ok_or o NoKind ≡ Ok kind → o ≡ Some kind
+one_kind (Some k) kind e = cc
+one_kind None kind e = cc
 
-pub returns-then-failed-ne0 : goal.returns-then-failed-ne0
-returns-then-failed-ne0 c =
-    let failed = c.failed_check-failed.ensures in
+-- past the checks the kind decides
+past_head : (n : Numbers) (p : List ℕ) → Ok tt ≡ checked p → (o found : Option Kind) → kind_of n p ≡ row_found n o → o ≡ found
+    → read_by n p ≡ read_as n p (row_found n found)
+past_head n p h o found e f = rw (read_by-past n p (checked_ok p h), e, f)
+
+pub returns-in_err-check : goal.returns-in_err-check
+returns-in_err-check c =
     let a = c.args in
-    rw c.nothing.ensures
-    (none_found_lem a.numbers a.packet.now _ (pos_of_ne-zero c.if-failed-ne0.true)
-    (read_by-failed a.numbers a.packet.now (λ z. c.if-failed-ne0.true (failed ∙ z)) ∙ rw failed))
+    let is = err_from_is_err_and c.from_residual.result c.from_residual.ensures.1 in
+    rw (is.1, is.2) (none_found a.numbers a.packet.now _ (read_by-failed a.numbers a.packet.now _ c.in_err-check.ensures))
 
-pub kind_of-kind-requires : goal.kind_of-kind-requires
-kind_of-kind-requires c =
+pub kind_of-requires : goal.kind_of-requires
+kind_of-requires c =
     let p = c.args.packet.now in
-    (sized p (past p c.failed_check-failed.result c.failed_check-failed.ensures c.if-failed-ne0.false).0).least
+    (sized p (checked_ok p c.in_ok-check.ensures).0).least
 
-pub returns-then-kind-eq0 : goal.returns-then-kind-eq0
-unfolding kind_numbered read_as
-returns-then-kind-eq0 c =
-    let p = c.args.packet.now in
-    let headed = past p c.failed_check-failed.result c.failed_check-failed.ensures c.if-failed-ne0.false in
-    rw c.nothing-then-kind-eq0.ensures
-    (none_found_lem _ _ 3 (omega arith) (past_head c.args.numbers p headed c.kind_of-kind.result c.kind_of-kind.ensures.0 ∙ rw c.if-kind-eq0.true))
+pub returns-in_err-kind : goal.returns-in_err-kind
+unfolding read_as
+returns-in_err-kind c =
+    let a = c.args in
+    let is = err_from_is_err_and c.from_residual-in_err-kind.result c.from_residual-in_err-kind.ensures.1 in
+    let none = no_kind c.kind_of.result _ (sym c.in_err-kind.ensures.value) in
+    rw (is.1, is.2, none.1)
+    (none_found a.numbers a.packet.now NoKind (past_head a.numbers a.packet.now c.in_ok-check.ensures _ _ c.kind_of.ensures none.0))
 
 pub returns-then-walk-packet : goal.returns-then-walk-packet
 unfolding whole
 returns-then-walk-packet c =
     let a = c.args in
     let p = a.packet.now in
-    let headed = past p c.failed_check-failed.result c.failed_check-failed.ensures c.if-failed-ne0.false in
     let short : stop_from p first_field < length p = rw c.walk.ensures at c.if-walk-packet.true in
-    rw c.nothing-then-walk-packet.ensures
-    (none_found_lem a.numbers p 4 (omega arith)
-    (past_head a.numbers p headed c.kind_of-kind.result c.kind_of-kind.ensures.0
-    ∙ read_as-cut a.numbers p c.kind_of-kind.result (pos_of_ne-zero c.if-kind-eq0.false) c.kind_of-kind.ensures.1
-    (ne_eqb (stop_from p first_field) (length p) (λ e. omega arith))))
+    let kind = one_kind c.kind_of.result _ (sym c.in_ok-kind.ensures.value) in
+    none_found a.numbers p Layout
+    (past_head a.numbers a.packet.now c.in_ok-check.ensures _ _ c.kind_of.ensures kind ∙ read_as-cut a.numbers p c.in_ok-kind.kind (ne_eqb (stop_from p first_field) (length p) (λ e. omega arith)))
 
-pub sorted-requires : goal.sorted-requires
-sorted-requires c =
+pub invariant_of-sorted : goal.invariant_of-sorted
+invariant_of-sorted c =
     let p = c.args.packet.now in
-    let size = sized p (past p c.failed_check-failed.result c.failed_check-failed.ensures c.if-failed-ne0.false).0 in
-    let whole : length p ≤ stop_from p first_field = rw c.walk.ensures at c.if-walk-packet.false in (
-      pos_of_ne-zero c.if-kind-eq0.false,
-      c.kind_of-kind.ensures.1,
-      record {
+    let size = sized p (checked_ok p c.in_ok-check.ensures).0 in
+    let whole : length p ≤ stop_from p first_field = rw c.walk.ensures at c.if-walk-packet.false in
+    record {
+      walked = record {
         least = size.least;
         most = size.most;
         whole = le_antisymm (stop_from-le p first_field size.least) whole;
-      },
-    )
+      };
+    }
 
 pub returns : goal.returns
 returns c =
-    let p = c.args.packet.now in
-    let headed = past p c.failed_check-failed.result c.failed_check-failed.ensures c.if-failed-ne0.false in
-    rw (past_head c.args.numbers p headed c.kind_of-kind.result c.kind_of-kind.ensures.0) c.sorted.ensures
+    let a = c.args in
+    let kind = one_kind c.kind_of.result _ (sym c.in_ok-kind.ensures.value) in
+    rw (past_head a.numbers a.packet.now c.in_ok-check.ensures _ _ c.kind_of.ensures kind) c.sorted.ensures

@@ -8,7 +8,7 @@ use lib.Dec.{leb}
 use lib.Seq.{take_all, take-take, length-take-le}
 use Rattle.octets.specs.Buffer.{put_at, padded}
 use Rattle.octets.proofs.Choice.{pick_same}
-use Rattle.octets.proofs.Buffer.{put_at-nil, put_at-next, put_at-zeros, length-padded, take-padded}
+use Rattle.octets.proofs.Buffer.{put_at-nil, put_at-next, put_at-zeros, take-padded}
 use Rattle.octets.proofs.Parts.{take-both}
 use Rattle.kinds.specs.declared.Numbers.{Numbers}
 use Rattle.shown.specs.Line.{line_by, line_room, fitting}
@@ -25,28 +25,24 @@ pub held_back : (xs : List ℕ) → length xs ≤ most_held → held_in (held_of
 unfolding held_in held_of
 held_back xs h = take-padded most_held 0 xs
 
--- as many of the octets as are held are those
-pub take-held : (h : Held) (n : ℕ) → n ≤ length (held_in h) → take n h.octets ≡ take n (held_in h)
+-- as many octets as there are, up to the length
+pub held-length : (h : Held) → length h.octets ≡ most_held → length (held_in h) ≡ min h.len most_held
 unfolding held_in
-take-held h n l = sym (take-take n h.len h.octets (omega (arith, length-take h.len h.octets)))
+held-length h e = rw (length-take, e)
 
--- no more is held than there are octets
-pub held-within : (h : Held) → length (held_in h) ≤ length h.octets
-unfolding held_in
-held-within h = omega (arith, length-take h.len h.octets)
-
--- nor more than decide a sheet
+-- no more is held than decides a sheet
 pub held-most : (h : Held) → length h.octets ≡ most_held → length (held_in h) ≤ most_held
-held-most h e = omega (arith, held-within h)
+held-most h e = omega (arith, held-length h e)
 
 -- as many octets as are held
 pub held_all : (h : Held) (n : ℕ) → n ≡ length (held_in h) → take n h.octets ≡ held_in h
-held_all h n e = take-held h n (omega arith) ∙ take_all n (held_in h) (omega arith)
+unfolding held_in
+held_all h n e = sym (take-take n h.len h.octets (omega (arith, length-take h.len h.octets))) ∙ take_all n (held_in h) (omega arith)
 
 -- what is held and more behind it, put into a row of zeros one after the other
 pub held_with : (h : Held) (ys : List ℕ) (most n m : ℕ) (octets : List ℕ) → most ≤ most_held
     → n ≡ min (length (held_in h)) most → m ≡ min (length ys) (most - n)
-    → octets ≡ put_at (put_at (replicate most_held 0) 0 (take n h.octets)) n (take m ys)
+    → octets ≡ put_at (put_at (replicate most_held 0) 0 (take n (held_in h))) n (take m ys)
     → ◌≡◌ {A = Held} (record { octets = octets; len = n + m }) (held_of (take most (held_in h ++ ys)))
 unfolding held_of
 held_with h ys most n m octets l en em eo =
@@ -57,7 +53,7 @@ held_with h ys most n m octets l en em eo =
     let k : length (take n xs ++ take m ys) ≡ n + m = rw (length-append, a, b) in
     let put : octets ≡ padded most_held 0 (take most (xs ++ ys)) =
     eo
-    ∙ rw (take-held h n (omega arith), put_at-next (replicate most_held 0) 0 (take n xs) (take m ys) n (omega arith) (rw length-replicate (omega arith)), all)
+    ∙ rw (put_at-next (replicate most_held 0) 0 (take n xs) (take m ys) n (omega arith) (rw length-replicate (omega arith)), all)
     (put_at-zeros most_held (take most (xs ++ ys)) (rw (← all) (omega arith))) in
     rw (put, ← k, all)
 
@@ -69,16 +65,8 @@ held_none h e = ap held_in e ∙ held_back [] (omega arith)
 pub kept_held : (line : List ℕ) → held_in (held_of (kept_of line)) ≡ kept_of line
 kept_held line = held_back (kept_of line) (omega (arith, (kept-short line).1))
 
--- as many octets as are kept there are
-pub kept-within : (h : Held) (line : List ℕ) → h ≡ held_of (kept_of line) → h.len ≤ length h.octets
-unfolding held_of
-kept-within h line e =
-    let k = kept-short line in
-    rw (e, length-padded most_held 0 (kept_of line) (omega arith)) (omega arith)
-
 -- what is kept of a line prints as the line
-pub kept-prints : (n : Numbers) (h : Held) (line : List ℕ) → h ≡ held_of (kept_of line) → line_by n (take h.len h.octets) ≡ line_by n line
-unfolding held_in
+pub kept-prints : (n : Numbers) (h : Held) (line : List ℕ) → h ≡ held_of (kept_of line) → line_by n (held_in h) ≡ line_by n line
 kept-prints n h line e = ap (λ (k : Held). line_by n (held_in k)) e ∙ (ap (line_by n) (kept_held line) ∙ line_by-kept n line)
 
 -- ---- a line is put
@@ -90,12 +78,11 @@ line-put n line out at r now h e = rw (fitting-whole (line_room line) (length ou
 
 -- and of a line that is kept with the room for the whole line
 pub kept_put : (n : Numbers) (h : Held) (line out : List ℕ) (at r : ℕ) (now : List ℕ) → h ≡ held_of (kept_of line) → line_room line ≤ length out - at
-    → put≡ n (take h.len h.octets) out at r now → Put (line_by n line) out at r now
+    → put≡ n (held_in h) out at r now → Put (line_by n line) out at r now
 kept_put n h line out at r now e room p =
-    let s = take h.len h.octets in
-    let k : s ≡ kept_of line = unfold held_in in ap held_in e ∙ kept_held line in
-    let short : length s ≤ length line = rw k (kept-short line).0 in
-    rw (kept-prints n h line e) at (line-put n s out at r now (omega arith) p)
+    let k : held_in h ≡ kept_of line = ap held_in e ∙ kept_held line in
+    let short : length (held_in h) ≤ length line = rw k (kept-short line).0 in
+    rw (kept-prints n h line e) at (line-put n (held_in h) out at r now (omega arith) p)
 
 -- ---- the last line
 

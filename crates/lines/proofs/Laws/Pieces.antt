@@ -1,19 +1,18 @@
 -- Laws of the lines in a piece, which are put one after the other. Assumes nothing.
 use mathlib.Core.Path.{◌≡◌, refl, sym, ap, ◌∙◌}
-use mathlib.Core.Bool.{Bool, true, false, not, ◌&&◌, ◌||◌}
-use Prim.Native.Nat.{ℕ, ◌+◌, ◌-◌, ◌*◌, ◌≤◌, ◌<◌}
+use Prim.Native.Nat.{ℕ, zero, suc, ◌+◌, ◌-◌, ◌*◌, ◌≤◌, ◌<◌}
 use native.Mathlib.Numerals.{add-one}
 use native.Mathlib.Omega.{arith}
 use mathlib.Core.List.{List, [], ◌∷◌, ◌++◌, map, flatten, append-nil, append_assoc}
 use lib.ListN.{length, get_or, take, drop, take-append-drop, length-append, length-drop}
-use lib.Seq.{take_all, take-suc, drop-cons, drop-drop, length-take-le}
-use lib.Dec.{T, eqb}
-use borrow.Author.Tests.{not-false, eqb-true, le-leb, lt-leb}
-use Rattle.octets.specs.Choice.{every, front}
+use lib.Seq.{take_all, drop-cons, length-take-le}
+use lib.Dec.{T}
+use borrow.Author.Tests.{eqb-true, eq-eqb, ne_eqb, le-leb, lt-leb}
+use Rattle.std.specs.Prelude.{None, Some}
+use Rattle.memchr.specs.Find.{IsFirstByte, is_byte}
 use Rattle.octets.specs.Buffer.{put_at}
-use Rattle.octets.proofs.Choice.{T_true, true-T, T-and-left, T-and-right, every_append, every_front, front-split, front-stop}
+use Rattle.octets.proofs.Choice.{T_and}
 use Rattle.octets.proofs.Buffer.{put_at-next, put_at-nil, put_both, length-put_at}
-use Rattle.octets.proofs.Parts.{take-front}
 use Rattle.sheet_line.specs.Line.{lf}
 use Rattle.kinds.specs.declared.Numbers.{Numbers}
 use Rattle.shown.specs.Line.{line_by, line_room}
@@ -29,191 +28,133 @@ use Rattle.lines.proofs.Laws.Lines.{ended-none, left-none, ended-lf, left-lf}
 use Rattle.lines.proofs.Laws.Held.{line-put}
 use Rattle.lines.proofs.Laws.Fits.{lines_fit}
 
--- ---- the lines in a piece
+-- ---- the first LF in a piece
 
--- one or the other is that not both of the opposites are
-or-not : (a b : Bool) → (not a || b) ≡ not (a && (not b && true))
-or-not false b = refl
-or-not true false = refl
-or-not true true = refl
-
--- an LF among one octet more
-pub lf-among : (s : List ℕ) (i : ℕ) (found : Bool) → i < length s → found ≡ not (every in_line (take i s))
-    → (found || eqb (get_or s i 0) lf) ≡ not (every in_line (take (i + 1) s))
-lf-among s i found h e =
-    rw (e, add-one, take-suc s i 0 h, every_append in_line (take i s) (get_or s i 0 ∷ [])) (or-not (every in_line (take i s)) (eqb (get_or s i 0) lf))
-
--- elements that all pass, and the front of those behind them
-front-every : (p : ℕ → Bool) (xs ys : List ℕ) → T (every p xs) → front p (xs ++ ys) ≡ xs ++ front p ys
-front-every p [] ys t = refl
-front-every p (x ∷ xs) ys t =
-    rw (T_true (p x) (T-and-left (p x) (every p xs) t), front-every p xs ys (T-and-right (p x) (every p xs) t))
-
--- octets up to a place without an LF are passed over: the line ends where it did
-pub line_passed : (s : List ℕ) (i end : ℕ) → i ≤ end → end ≤ length s → not (every in_line (take (end - i) (drop i s))) ≡ false
-    → end + length (front in_line (drop end s)) ≡ i + length (front in_line (drop i s))
-line_passed s i end l h t =
-    let xs = take (end - i) (drop i s) in
-    let rest = front in_line (drop end s) in
-    let n : i + (end - i) ≡ end = omega arith in
-    let k : length xs ≡ end - i = length-take-le (end - i) (drop i s) (rw length-drop (omega arith)) in
-    let split : drop i s ≡ xs ++ drop end s = sym (take-append-drop (end - i) (drop i s)) ∙ rw (drop-drop, n) in
-    let e : front in_line (drop i s) ≡ xs ++ rest =
-    ap (front in_line) split ∙ front-every in_line xs (drop end s) (true-T (every in_line xs) (not-false (every in_line xs) t)) in
-    omega (arith, ap length e, length-append xs rest)
-
--- the line up to the LF has no LF
-line_one : (s : List ℕ) → T (one_line (front in_line s))
+-- octets that are no LF are in a line
+none-one : (s : List ℕ) (n : ℕ) → ((i : ℕ) → i < n → get_or s i 0 ≡ lf → ⊥) → T (one_line (take n s))
 unfolding one_line
-line_one s = every_front in_line s
+none-one [] zero f = tt
+none-one [] (suc n) f = tt
+none-one (c ∷ s) zero f = tt
+none-one (c ∷ s) (suc n) f =
+    T_and (in_line c) (one_line (take n s)) (rw (ne_eqb c lf (f 0 (omega arith))) tt) (none-one s n (λ i h. f (suc i) (omega arith)))
 
--- the line, the LF and what stands behind it
-line_split : (s : List ℕ) → length (front in_line s) < length s → s ≡ front in_line s ++ (lf ∷ drop (length (front in_line s) + 1) s)
-line_split s h =
-    let k = length (front in_line s) in
-    let e : get_or s k 0 ≡ lf = eqb-true (get_or s k 0) lf (not-false (eqb (get_or s k 0) lf) (front-stop in_line s h)) in
-    front-split in_line s ∙ ap (front in_line s ++◌) (drop-cons s k 0 h ∙ rw (e, add-one))
+-- Where it stands: in front of it is one line.
+pub record First (s : List ℕ) (k : ℕ) : Type 0 where
+  pub inside : k < length s
+  pub one : T (one_line (take k s))
+  pub lf_at : get_or s k 0 ≡ lf
 
-module _ (line s : List ℕ) (k : ℕ) (e : k ≡ length (front in_line s)) where
-  -- the first line is as many octets
-  line_taken : take k s ≡ front in_line s
-  line_taken = rw e (take-front in_line s)
-
-  -- a piece that ends no line
-  module _ (h : length s ≤ k) where
-    line-all : T (one_line s)
-    line-all = rw (sym line_taken ∙ take_all k s h) at (line_one s)
-
-    pub lines_none : (n : Numbers) → lines_text n line s ≡ []
-    unfolding lines_text flatten
-    lines_none n = rw (ended-none line s line-all)
-
-    pub left-all : left_from line s ≡ line ++ s
-    left-all = left-none line s line-all
-
-  -- a piece that ends one: its line, and the lines behind it
-  module _ (h : k < length s) where
-    split : s ≡ take k s ++ (lf ∷ drop (k + 1) s)
-    split = rw (line_taken, e) (line_split s (omega arith))
-
-    one : T (one_line (take k s))
-    one = rw line_taken (line_one s)
-
-    pub lines-first : (n : Numbers) → lines_text n line s ≡ line_by n (line ++ take k s) ++ lines_text n [] (drop (k + 1) s)
-    unfolding lines_text flatten
-    lines-first n =
-        ap (λ (l : List (List ℕ)). flatten (map (line_by n) l)) (ap (ended_from line) split ∙ ended-lf line (take k s) (drop (k + 1) s) one)
-
-    pub left_behind : left_from line s ≡ left_from [] (drop (k + 1) s)
-    left_behind = ap (left_from line) split ∙ left-lf line (take k s) (drop (k + 1) s) one
-
--- Up to a place the lines of a piece are printed, and what is left of the room is enough for those behind it.
-pub record Upto (n : Numbers) (piece : List ℕ) (from : ℕ) (out : List ℕ) (at left end : ℕ) (now : List ℕ) : Type 0 where
-  pub text : List ℕ
-  pub whole : lines_text n [] (drop from piece) ≡ text ++ lines_text n [] (drop left piece)
-  pub rest : left_from [] (drop from piece) ≡ left_from [] (drop left piece)
-  pub put : now ≡ put_at out at text
-  pub past : end ≡ at + length text
-  pub inside : left ≤ length piece
-  pub room : end + 10 * (length piece - left) ≤ length out
-
--- before the first line
-pub upto-none : (n : Numbers) (piece : List ℕ) (from : ℕ) (out : List ℕ) (at : ℕ) → from ≤ length piece → at + 10 * length (drop from piece) ≤ length out
-    → Upto n piece from out at from at out
-upto-none n piece from out at h room =
+-- what a search for it finds
+pub found : (s : List ℕ) (k : ℕ) → IsFirstByte (is_byte 10) s (Some k) → First s k
+found s k f =
     record {
-      text = [];
-      whole = refl;
-      rest = refl;
-      put = sym (put_at-nil out at);
-      past = omega arith;
-      inside = h;
-      room = rw length-drop at room;
+      inside = f.0.high;
+      one = none-one s k (λ i h e. f.0.before i (omega arith) h (eq-eqb (get_or s i 0) lf e));
+      lf_at = eqb-true (get_or s k 0) lf f.1;
     }
 
-module _ (n : Numbers) (piece : List ℕ) (from : ℕ) (out : List ℕ) (at left end : ℕ) (now : List ℕ) (u : Upto n piece from out at left end now)
-    (to : ℕ) (e : to ≡ left + length (front in_line (drop left piece))) where
-  -- the line from the place on
-  abbrev rest_of : List ℕ
-  rest_of = drop left piece
+-- what it finds where there is none
+pub not_found : (s : List ℕ) → IsFirstByte (is_byte 10) s None → T (one_line s)
+not_found s f = rw (take_all (length s) s (omega arith)) at (none-one s (length s) (λ i h e. f i (omega arith) h (eq-eqb (get_or s i 0) lf e)))
 
-  abbrev line : List ℕ
-  line = take (to - left) rest_of
+-- what stands behind a place
+pub behind_all : (s : List ℕ) (k : ℕ) → take (length s - k) (drop k s) ≡ drop k s
+behind_all s k = take_all (length s - k) (drop k s) (omega (arith, length-drop k s))
 
-  size : to - left ≡ length (front in_line rest_of)
-  size = omega arith
+-- ---- the lines in a piece
 
-  module _ (l : to < length piece) where
-    inside-it : to - left < length rest_of
-    inside-it = rw length-drop (omega arith)
+-- a piece that ends no line
+module _ (line s : List ℕ) (one : T (one_line s)) where
+  pub lines_none : (n : Numbers) → lines_text n line s ≡ []
+  unfolding lines_text flatten
+  lines_none n = rw (ended-none line s one)
 
-    -- there is room for it
-    room_after : end + length (line_by n line) + 10 * (length piece - (to + 1)) ≤ length out
-    room_after =
-        let k : length line ≡ to - left = length-take-le (to - left) rest_of (omega (arith, inside-it)) in
-        omega (arith, (line_fits n line).1, u.room)
+  pub left-all : left_from line s ≡ line ++ s
+  left-all = left-none line s one
 
-    room-asked : line_room line ≤ length now - end
-    room-asked =
-        let k : length line ≡ to - left = length-take-le (to - left) rest_of (omega (arith, inside-it)) in
-        rw (u.put, length-put_at) (omega (arith, u.room))
+-- a piece that ends one: its line, and the lines behind it
+module _ (line s : List ℕ) (k : ℕ) (first : First s k) where
+  split : s ≡ take k s ++ (lf ∷ drop (k + 1) s)
+  split =
+      sym (take-append-drop k s) ∙ ap (take k s ++◌) (drop-cons s k 0 first.inside ∙ rw (first.lf_at, add-one))
 
-    -- and behind it the lines go on
-    pub upto_next : (end' : ℕ) (now' : List ℕ) → put≡ n line now end end' now' → Upto n piece from out at (to + 1) end' now'
-    upto_next end' now' p =
-        let done = line-put n line now end end' now' room-asked p in
-        let k : left + (to - left + 1) ≡ to + 1 = omega arith in
-        let behind : drop (to - left + 1) rest_of ≡ drop (to + 1) piece = rw (drop-drop, k) in
+  pub lines-first : (n : Numbers) → lines_text n line s ≡ line_by n (line ++ take k s) ++ lines_text n [] (drop (k + 1) s)
+  unfolding lines_text flatten
+  lines-first n =
+      ap (λ (l : List (List ℕ)). flatten (map (line_by n) l)) (ap (ended_from line) split ∙ ended-lf line (take k s) (drop (k + 1) s) first.one)
+
+  pub left_behind : left_from line s ≡ left_from [] (drop (k + 1) s)
+  left_behind = ap (left_from line) split ∙ left-lf line (take k s) (drop (k + 1) s) first.one
+
+  -- the line is so long
+  pub first-length : length (line ++ take k s) ≡ length line + k
+  first-length = rw (length-append, length-take-le k s (omega (arith, first.inside)))
+
+-- The lines in front of what is left of a piece are printed, and what is left of the room is enough for those in it.
+pub record Upto (n : Numbers) (piece out : List ℕ) (at : ℕ) (left : List ℕ) (end : ℕ) (now : List ℕ) : Type 0 where
+  pub text : List ℕ
+  pub whole : lines_text n [] piece ≡ text ++ lines_text n [] left
+  pub rest : left_from [] piece ≡ left_from [] left
+  pub put : now ≡ put_at out at text
+  pub past : end ≡ at + length text
+  pub room : end + 10 * length left ≤ length out
+
+module _ (n : Numbers) (piece out : List ℕ) (at : ℕ) where
+  -- before the first line
+  pub upto-none : at + 10 * length piece ≤ length out → Upto n piece out at piece at out
+  upto-none room = record { text = []; whole = refl; rest = refl; put = sym (put_at-nil out at); past = omega arith; room = room }
+
+  module _ (left : List ℕ) (end : ℕ) (now : List ℕ) (u : Upto n piece out at left end now) where
+    -- with the next line
+    pub upto_next : (k : ℕ) → First left k → (end' : ℕ) (now' : List ℕ) → put≡ n (take k left) now end end' now'
+        → Upto n piece out at (drop (k + 1) left) end' now'
+    upto_next k first end' now' p =
+        let line = take k left in
+        let long : length line ≡ k = length-take-le k left (omega (arith, first.inside)) in
+        let behind = length-drop (k + 1) left in
+        let room : end + length (line_by n line) + 10 * length (drop (k + 1) left) ≤ length out = omega (arith, (line_fits n line).1, u.room, first.inside) in
+        let asked : line_room line ≤ length now - end = rw (u.put, length-put_at) (omega (arith, u.room, first.inside)) in
+        let done = line-put n line now end end' now' asked p in
         record {
           text = u.text ++ line_by n line;
-          whole = u.whole ∙ rw (lines-first [] rest_of (to - left) size inside-it n, behind, append_assoc);
-          rest = u.rest ∙ rw (left_behind [] rest_of (to - left) size inside-it, behind);
-          put = done.0 ∙ rw u.put (put_at-next out at u.text (line_by n line) end u.past (omega (arith, room_after)));
+          whole = u.whole ∙ rw (lines-first [] left k first n, append_assoc);
+          rest = u.rest ∙ left_behind [] left k first;
+          put = done.0 ∙ rw u.put (put_at-next out at u.text (line_by n line) end u.past (omega (arith, room)));
           past = rw length-append (omega (arith, u.past, done.1));
-          inside = omega arith;
-          room = omega (arith, room_after, done.1);
+          room = omega (arith, room, done.1);
         }
 
-  -- where no line ends any more, all of them are printed
-  module _ (l : length piece ≤ to) where
-    over-all : length rest_of ≤ to - left
-    over-all = rw length-drop (omega arith)
-
-    pub upto-text : u.text ≡ lines_text n [] (drop from piece)
-    upto-text = sym (u.whole ∙ rw (lines_none [] rest_of (to - left) size over-all n, append-nil))
-
-    pub upto_left : drop left piece ≡ left_from [] (drop from piece)
-    upto_left = sym (u.rest ∙ left-all [] rest_of (to - left) size over-all)
+    -- where no line ends any more, all of them are printed
+    pub upto-all : T (one_line left) → Put (lines_text n [] piece) out at end now × (left ≡ left_from [] piece)
+    upto-all one =
+        let text : u.text ≡ lines_text n [] piece = sym (u.whole ∙ rw (lines_none [] left one n, append-nil)) in
+        ((rw text at u.put, rw text at u.past), sym (u.rest ∙ left-all [] left one))
 
 -- ---- the lines in a piece, the first of them begun
 
-module _ (n : Numbers) (xs piece : List ℕ) (to : ℕ) (e : to ≡ length (front in_line piece)) (out : List ℕ) (at : ℕ)
-    (room : at + 10 * (length xs + length piece) ≤ length out) (l : to < length piece) where
+module _ (n : Numbers) (xs piece : List ℕ) (k : ℕ) (f : First piece k) (out : List ℕ) (at : ℕ) (room : at + 10 * (length xs + length piece) ≤ length out) where
   -- the first line, and what stands behind it
   abbrev first : List ℕ
-  first = xs ++ take to piece
+  first = xs ++ take k piece
 
   abbrev others : List ℕ
-  others = drop (to + 1) piece
+  others = drop (k + 1) piece
 
   -- there is the room that is asked for it
   pub first-room : line_room first ≤ length out - at
-  first-room = let k : length first ≡ length xs + to = rw (length-append, length-take-le to piece (omega arith)) in omega arith
+  first-room = omega (arith, first-length xs piece k f, f.inside)
 
   -- and room for it and for ten octets for each behind it
-  pub first_fits : at + length (line_by n first) + 10 * (length piece - (to + 1)) ≤ length out
-  first_fits =
-      let k : length first ≡ length xs + to = rw (length-append, length-take-le to piece (omega arith)) in
-      omega (arith, (line_fits n first).1)
+  pub first_fits : at + length (line_by n first) + 10 * length others ≤ length out
+  first_fits = omega (arith, first-length xs piece k f, f.inside, length-drop (k + 1) piece, (line_fits n first).1)
 
   -- it is printed, and those behind it
-  pub first-put : (mid : List ℕ) (next : ℕ) (now : List ℕ) (end : ℕ) → mid ≡ put_at out at (line_by n first) → next ≡ at + length (line_by n first)
-      → now ≡ put_at mid next (lines_text n [] others) → end ≡ next + length (lines_text n [] others)
-      → (now ≡ put_at out at (lines_text n xs piece)) × (end ≡ at + length (lines_text n xs piece))
-  first-put mid next now end m i p q =
-      let k = length-drop (to + 1) piece in
-      rw (lines-first xs piece to e l n)
-      (put_both out at (line_by n first) (lines_text n [] others) mid next now end m i p q (omega (arith, lines_fit n [] others, first_fits)))
+  pub first-put : (mid : List ℕ) (next : ℕ) (now : List ℕ) (end : ℕ) → Put (line_by n first) out at next mid → Put (lines_text n [] others) mid next end now
+      → Put (lines_text n xs piece) out at end now
+  first-put mid next now end p q =
+      rw (lines-first xs piece k f n)
+      (put_both out at (line_by n first) (lines_text n [] others) mid next now end p.0 p.1 q.0 q.1 (omega (arith, lines_fit n [] others, first_fits)))
 
 -- ---- by whether there is room
 

@@ -8,7 +8,7 @@ use Rattle.lines.proofs.has_room.Goals as goal
 pub returns : goal.returns
 returns c =
     let a = c.args in
-    let tenth = (a.out - c.least.result) / 10 in
+    let tenth = c.saturating_sub.result / 10 in
     test-eq (leb a.octets tenth) (leb (10 * a.octets) (a.out - a.at))
     (λ t. let h = leb→le a.octets tenth t in le→leb (10 * a.octets) (a.out - a.at) (omega arith))
     (λ t. let h = leb→le (10 * a.octets) (a.out - a.at) t in le→leb a.octets tenth (omega arith))

@@ -1,37 +1,23 @@
--- `lines::put_ended` meets its contract. The invariant: the lines up to a place are printed, there is room for those behind it, and
--- the line there ends at `lf`. Assumes nothing.
-use mathlib.Core.Path.{ap, ◌∙◌}
-use Prim.Native.Nat.{◌-◌}
-use native.Mathlib.Omega.{arith}
-use lib.ListN.{length}
-use Rattle.octets.proofs.Buffer.{length-put_at}
-use Rattle.lines.proofs.Laws.Pieces.{upto-none, upto_next, upto-text, upto_left}
+-- `lines::put_ended` meets its contract. The invariant: the lines in front of what is left are printed, and there is room for those in it.
+-- Assumes nothing.
+use Prim.Native.Nat.{◌+◌}
+use Rattle.lines.proofs.Laws.Pieces.{found, not_found, behind_all, upto-none, upto_next, upto-all}
 use Rattle.lines.proofs.put_ended.Goals as goal
 
 pub loop-lf-init : goal.loop-lf-init
-loop-lf-init c =
-    let start = c.before.before.before in
-    let a = start.args in
-    (upto-none a.numbers a.piece.now a.from a.out.now a.at start.requires.0 start.requires.1, c.line_end-lf.ensures)
+loop-lf-init c = upto-none c.args.numbers c.args.piece.now c.args.out.now c.args.at c.requires
 
 pub loop-lf-preserved : goal.loop-lf-preserved
 loop-lf-preserved c =
-    let put = c.put-end in
-    let loop = c.loop-lf in
-    let a = c.args in (
-      upto_next a.numbers a.piece.now a.from a.out.now a.at loop.left loop.end loop.out loop.invariant.0 loop.lf loop.invariant.1 (omega arith)
-          put.result put.new.out put.ensures,
-      c.line_end-lf-in-loop-lf.ensures,
-    )
-
-pub shape_of-out : goal.shape_of-out
-shape_of-out c = ap length c.loop-lf.invariant.0.put ∙ length-put_at _ _ _
+    let a = c.args in
+    let left = c.loop-lf.left.now in
+    let first = found left c.in-Some.lf (rw c.in-Some.is at c.memchr.ensures) in
+    rw (behind_all left (c.in-Some.lf + 1))
+    (upto_next a.numbers a.piece.now a.out.now a.at left c.loop-lf.end c.loop-lf.out c.loop-lf.invariant c.in-Some.lf first c.put-end.result c.put-end.new.out
+    c.put-end.ensures)
 
 pub returns : goal.returns
 returns c =
-    let loop = c.loop-lf in
     let a = c.args in
-    let u = loop.invariant.0 in
-    let text = upto-text a.numbers a.piece.now a.from a.out.now a.at loop.left loop.end loop.out u loop.lf loop.invariant.1 (omega arith) in
-    let left = upto_left a.numbers a.piece.now a.from a.out.now a.at loop.left loop.end loop.out u loop.lf loop.invariant.1 (omega arith) in
-    ((rw text at u.put, rw text at u.past), u.inside, left)
+    let left = c.loop-lf.left.now in
+    upto-all a.numbers a.piece.now a.out.now a.at left c.loop-lf.end c.loop-lf.out c.loop-lf.invariant (not_found left (rw c.in_default.is at c.memchr.ensures))

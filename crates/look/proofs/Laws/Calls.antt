@@ -6,16 +6,14 @@ use mathlib.Core.List.{List, [], ◌∷◌, ◌++◌, map, flatten, append_assoc
 use lib.ListN.{length, take}
 use lib.Dec.{T}
 use borrow.Author.Tests.{le-leb}
+use Rattle.std.specs.Prelude.{Result, Ok}
 use Rattle.octets.specs.Buffer.{over}
 use Rattle.octets.proofs.Buffer.{take-over}
-use Rattle.sheet_text.specs.Reading.{no_refusal}
-use Rattle.shown.specs.declared.Printing.{Printing}
-use Rattle.shown.specs.declared.Printing.TheVariants.{Printed}
+use Rattle.sheet.specs.declared.Refusal.{Refusal}
 use Rattle.look.specs.declared.Look.{Look}
-use Rattle.look.specs.declared.Stepped.{Stepped}
 use Rattle.look.specs.Steps.{State, in_sheet, in_lines, refused_sheet, Went, step_of, end_of, is_refused, state_of, look_as, room_asked, has_room, stepped_of, after_step}
 use Rattle.look.specs.Promises.{end≡}
-use Rattle.look.specs.Claims.{Call, Called, CalledInTurn, printed_by, piece_of, PiecesPrintTheWhole, RoomIsEnough, RefusedIsAll}
+use Rattle.look.specs.Claims.{Call, Called, kept_by, CalledInTurn, printed_by, piece_of, PiecesPrintTheWhole, RoomIsEnough, RefusedIsAll}
 use Rattle.look.proofs.Laws.Pieces.{printed_from, pieces_whole}
 
 -- ---- a call
@@ -27,12 +25,7 @@ module _ (look : Look) (c : Call) (h : Called look c) where
   called-room = le-leb (room_asked (length c.piece)) (length c.out) h.0
 
   -- so the piece is taken
-  pub called-said : c.said
-      ≡ record {
-        look = look_as (step_of (state_of look) c.piece).to;
-        written = length (step_of (state_of look) c.piece).text;
-        refusal = no_refusal;
-      }
+  pub called-said : c.said ≡ Ok (record { look = look_as (step_of (state_of look) c.piece).to; written = length (step_of (state_of look) c.piece).text })
   unfolding stepped_of
   called-said = h.1.0 ∙ rw called-room
 
@@ -46,17 +39,18 @@ module _ (look : Look) (c : Call) (h : Called look c) where
   called-printed = rw (called-said, called-after) (take-over (step_of (state_of look) c.piece).text c.out)
 
   -- and what it kept is the state behind it
-  called-kept : c.said.look ≡ look_as (step_of (state_of look) c.piece).to
-  called-kept = ap (λ (s : Stepped). s.look) called-said
+  called-kept : kept_by look c.said ≡ look_as (step_of (state_of look) c.piece).to
+  called-kept = ap (kept_by look) called-said
 
 pub room_is_enough : RoomIsEnough
-room_is_enough look c h = ap (λ (s : Stepped). s.refusal) (called-said look c h)
+room_is_enough look c h =
+    (record { look = look_as (step_of (state_of look) c.piece).to; written = length (step_of (state_of look) c.piece).text }, called-said look c h)
 
 -- ---- the end
 
-module _ (look : Look) (out : List ℕ) (r : Printing) (now : List ℕ) (room : room_asked 0 ≤ length out) (h : end≡ look out r now) where
+module _ (look : Look) (out : List ℕ) (r : Result ℕ Refusal) (now : List ℕ) (room : room_asked 0 ≤ length out) (h : end≡ look out r now) where
   -- it is printed whole
-  pub end_whole : (r ≡ Printed (length (end_of (state_of look)))) × (now ≡ over (end_of (state_of look)) out)
+  pub end_whole : (r ≡ Ok (length (end_of (state_of look)))) × (now ≡ over (end_of (state_of look)) out)
   end_whole = let enough = le-leb (room_asked 0) (length out) room in (h.0 ∙ rw enough, h.1 ∙ rw enough)
 
   -- into the front
@@ -73,7 +67,7 @@ calls_print [] look last e = ap (λ (x : Look). end_of (state_of x)) (sym e)
 calls_print (c ∷ calls) look last h =
     append_assoc (printed_by c) (flatten (map printed_by calls)) (end_of (state_of last))
     ∙ ap₂ (λ (x y : List ℕ). x ++ y) (called-printed look c h.0)
-    (calls_print calls c.said.look last h.1 ∙ ap (λ (x : Look). printed_from x (map piece_of calls)) (called-kept look c h.0))
+    (calls_print calls (kept_by look c.said) last h.1 ∙ ap (λ (x : Look). printed_from x (map piece_of calls)) (called-kept look c h.0))
 
 pub pieces_print_the_whole : PiecesPrintTheWhole
 pieces_print_the_whole first last calls out r now s h room e =

@@ -1,19 +1,24 @@
 -- Laws of the input piece by piece: two pieces one after the other print what both together do. Assumes nothing.
 use mathlib.Core.Path.{◌≡◌, refl, sym, ap, ap₂, ◌∙◌}
 use mathlib.Core.Logic.{◌⊎◌, ⊎_elim}
-use Prim.Native.Nat.{ℕ, ◌+◌, ◌≤◌, ◌<◌, zero-le}
+use Prim.Native.Nat.{ℕ, ◌+◌, ◌≤◌, ◌<◌}
 use native.Mathlib.Omega.{arith}
 use native.Mathlib.Bridge.{le_by_compare, IsLe}
 use mathlib.Core.List.{List, [], ◌∷◌, ◌++◌, map, flatten, append_assoc, append-nil}
 use lib.ListN.{length, drop, length-append}
 use lib.Seq.{take_all, take-append-le, drop-append-le}
-use lib.Dec.{ltb, eqb, ltb→lt, eqb→eq}
+use lib.Dec.{ltb, ltb→lt}
 use borrow.Author.Tests.{lt-ltb, le-ltb}
+use Rattle.std.specs.Prelude.{Result, Ok, Err}
 use Rattle.octets.specs.Text.{decimal, decimal_by}
-use Rattle.octets.proofs.Choice.{T_true, decide, le-or-lt, pick-cases}
+use Rattle.octets.proofs.Choice.{le-or-lt, pick-cases}
+use Rattle.sheet.specs.declared.Refusal.{Refusal}
+use Rattle.sheet.specs.Refusal.{refusal_line}
+use Rattle.sheet.specs.Value.{sheet_of}
 use Rattle.sheet.specs.Table.{table, seat_row, most_seats}
 use Rattle.sheet_line.specs.Line.{tail_of}
 use Rattle.sheet_text.specs.Text.{widest, longest, text_of}
+use Rattle.sheet_text.specs.declared.Reading.{Reading}
 use Rattle.sheet_text.specs.Reading as sheet-reading
 use Rattle.sheet_text.proofs.Laws.Readings.{outcome-reads}
 use Rattle.sheet_text.proofs.Laws.Decides.{longest_decides}
@@ -26,9 +31,9 @@ use Rattle.lines.specs.Pieces.{most_held, kept_of, ended_from, left_from, lines_
 use Rattle.lines.proofs.Laws.Kept.{kept-short, lines-append, kept_append, lines-whole}
 use Rattle.lines.proofs.Laws.Held.{held_back}
 use Rattle.look.specs.declared.Look.{Look}
-use Rattle.look.specs.Look.{look_of}
+use Rattle.look.specs.Look.{look_by, look_of}
 use Rattle.look.specs.Claims.{HeldDecides}
-use Rattle.look.specs.Steps.{State, in_sheet, in_lines, refused_sheet, Went, fed, decided, step_of, last_text, end_of, state_of, look_as}
+use Rattle.look.specs.Steps.{State, in_sheet, in_lines, refused_sheet, Went, fed, decided_by, decided, step_of, last_text, end_of, state_of, look_as}
 use Rattle.look.proofs.Laws.Line.{line_of-read}
 
 -- two pieces
@@ -60,23 +65,24 @@ read_held t rest h =
     (λ e. ap sheet-reading.read_of (ap (λ (x : List ℕ). t ++ x) e ∙ append-nil t))
     h
 
-module _ (t : List ℕ) where
+module _ (t : List ℕ) (r : Reading) where
   -- the text of the entries that were read is the front of it
-  outcome-within : (o : sheet-reading.Outcome) → sheet-reading.outcome t ≡ o → (sheet-reading.reading_of o).used ≤ length t
+  outcome-within : (o : sheet-reading.Outcome) → sheet-reading.outcome t ≡ o → sheet-reading.reading_of o ≡ Ok r → r.used ≤ length t
   unfolding sheet-reading.reading_of
-  outcome-within (sheet-reading.reads es) p =
+  outcome-within (sheet-reading.reads es) p e =
       let u = (outcome-reads t es p).1 in
-      omega (arith, ap length u.1, length-append (text_of es) u.0)
-  outcome-within (sheet-reading.refused k) p = zero-le
+      let is : r ≡ record { sheet = sheet_of es; used = length (text_of es) } = cc in
+      rw is (omega (arith, ap length u.1, length-append (text_of es) u.0))
+  outcome-within (sheet-reading.refused k) p e = cc
 
   -- a sheet's text lies within
-  pub used-within : (sheet-reading.read_of t).used ≤ length t
+  pub used-within : sheet-reading.read_of t ≡ Ok r → r.used ≤ length t
   unfolding sheet-reading.read_of
-  used-within = outcome-within (sheet-reading.outcome t) refl
+  used-within e = outcome-within (sheet-reading.outcome t) refl e
 
--- ---- states that the struct holds
+-- ---- states that the value holds
 
--- no more is held than the struct holds, of a sheet less than decides it, and of a line what is kept
+-- no more is held than the value holds, of a sheet less than decides it, and of a line what is kept
 unfoldable pub Kept : State → Type 0
 Kept (in_sheet t) = length t < most_held
 Kept (in_lines n line) = length line ≤ most_digits + 1
@@ -95,15 +101,14 @@ unfolding Kept fed
 fed-kept n line piece = (kept-short (left_from line piece)).1
 
 -- a sheet that is decided does
+decided_by-kept : (t : List ℕ) (r : Result Reading Refusal) → Kept (decided_by t r).to
+unfolding decided_by Kept
+decided_by-kept t (Ok r) = fed-kept (numbers_of r.sheet) [] (drop r.used t)
+decided_by-kept t (Err refusal) = tt
+
 pub decided-kept : (t : List ℕ) → Kept (decided t).to
-unfolding decided Kept
-decided-kept t =
-    let r = sheet-reading.read_of t in
-    pick-cases (λ (w : Went). Kept w.to) (eqb r.refusal.number 0)
-    (fed (numbers_of r.sheet) [] (drop r.used t))
-    (record { to = refused_sheet; text = sheet_line r.refusal.at })
-    (λ b. fed-kept (numbers_of r.sheet) [] (drop r.used t))
-    (λ e. tt)
+unfolding decided
+decided-kept t = decided_by-kept t (sheet-reading.read_of t)
 
 -- and so does any step
 step_kept : (st : State) (piece : List ℕ) → Kept st → Kept (step_of st piece).to
@@ -149,15 +154,15 @@ sheet-further u s t =
     rw (n, append_assoc u s t)
 
 -- a sheet that is decided stays so
+decided_by-append : (t piece : List ℕ) (r : Result Reading Refusal) → sheet-reading.read_of t ≡ r → Then (decided_by t r) piece (decided_by (t ++ piece) r)
+unfolding decided_by step_of fed
+decided_by-append t piece (Ok r) e =
+    rw (drop-append-le r.used t piece (used-within t r e)) (fed-append (numbers_of r.sheet) [] (drop r.used t) piece)
+decided_by-append t piece (Err refusal) e = (sym (append-nil (sheet_line (refusal_line refusal))), refl)
+
 decided-append : (t piece : List ℕ) → most_held ≤ length t → Then (decided t) piece (decided (t ++ piece))
-unfolding decided step_of fed
-decided-append t piece h =
-    let r = sheet-reading.read_of t in
-    rw (read_more t piece h, drop-append-le r.used t piece (used-within t))
-    (⊎_elim
-    (λ b. rw (T_true (eqb r.refusal.number 0) b) (fed-append (numbers_of r.sheet) [] (drop r.used t) piece))
-    (λ e. rw e (sym (append-nil (sheet_line r.refusal.at)), refl))
-    (decide (eqb r.refusal.number 0)))
+unfolding decided
+decided-append t piece h = rw (read_more t piece h) (decided_by-append t piece (sheet-reading.read_of t) refl)
 
 -- two pieces, the first behind the front of a sheet
 sheet-append : (u s t : List ℕ) → Then (step_of (in_sheet u) s) t (step_of (in_sheet u) (s ++ t))
@@ -200,26 +205,28 @@ printed_step (p ∷ ps) st k =
 -- ---- all of it at once
 
 -- a sheet that is decided and the last line are what is said of the whole
-decided-whole : (t : List ℕ) → (decided t).text ++ last_text (decided t).to ≡ look_of t
-unfolding decided look_of fed last_text
-decided-whole t =
-    let r = sheet-reading.read_of t in
-    let n = numbers_of r.sheet in
+decided_by-whole : (t : List ℕ) (r : Result Reading Refusal) → sheet-reading.read_of t ≡ r
+    → (decided_by t r).text ++ last_text (decided_by t r).to ≡ look_by t r
+unfolding decided_by look_by fed last_text
+decided_by-whole t (Ok r) e =
     let u = drop r.used t in
-    ⊎_elim
-    (λ b.
-    rw (T_true (eqb r.refusal.number 0) b)
-    (lines-whole n u
-    ∙ ap (λ (f : List ℕ → List ℕ). flatten (map f (lines_of u))) (λ i line. sym (line_of-read t (eqb→eq r.refusal.number 0 b) line) i)))
-    (λ e. rw e (append-nil (sheet_line r.refusal.at)))
-    (decide (eqb r.refusal.number 0))
+    lines-whole (numbers_of r.sheet) u
+    ∙ ap (λ (f : List ℕ → List ℕ). flatten (map f (lines_of u))) (λ i line. sym (line_of-read t r e line) i)
+decided_by-whole t (Err refusal) e = append-nil (sheet_line (refusal_line refusal))
+
+decided-whole : (t : List ℕ) → (decided t).text ++ last_text (decided t).to ≡ look_of t
+unfolding decided look_of
+decided-whole t = decided_by-whole t (sheet-reading.read_of t) refl
 
 -- what is decided is not decided anew at the end
+decided_by-end : (t : List ℕ) (r : Result Reading Refusal) → end_of (decided_by t r).to ≡ last_text (decided_by t r).to
+unfolding decided_by fed end_of last_text
+decided_by-end t (Ok r) = refl
+decided_by-end t (Err refusal) = refl
+
 decided-end : (t : List ℕ) → end_of (decided t).to ≡ last_text (decided t).to
-unfolding decided fed end_of last_text
-decided-end t =
-    let r = sheet-reading.read_of t in
-    ⊎_elim (λ b. rw (T_true (eqb r.refusal.number 0) b)) (λ e. rw e) (decide (eqb r.refusal.number 0))
+unfolding decided
+decided-end t = decided_by-end t (sheet-reading.read_of t)
 
 -- the whole in one piece
 one_piece : (t : List ℕ) → (step_of (in_sheet []) t).text ++ end_of (step_of (in_sheet []) t).to ≡ look_of t

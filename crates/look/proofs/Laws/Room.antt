@@ -7,33 +7,33 @@ use native.Mathlib.Omega.{arith}
 use mathlib.Core.Bool.{true, false}
 use mathlib.Core.List.{List, [], ◌++◌}
 use lib.ListN.{length, drop, length-append, length-drop}
-use lib.Dec.{leb, eqb}
+use lib.Dec.{leb}
 use borrow.Author.Tests.{le-leb, lt-leb}
-use Rattle.octets.specs.Buffer.{put_at}
-use Rattle.octets.proofs.Choice.{le-or-lt, pick-cases}
+use Rattle.std.specs.Prelude.{Result, Ok, Err}
+use Rattle.octets.proofs.Choice.{le-or-lt}
 use Rattle.octets.proofs.Buffer.{over-put_at, put_both}
 use Rattle.octets.proofs.Text.{length-decimal}
+use Rattle.sheet.specs.declared.Refusal.{Refusal}
+use Rattle.sheet.specs.declared.Refusal.TheVariants.{NoRoom}
+use Rattle.sheet.specs.Refusal.{refusal_line}
+use Rattle.sheet_text.specs.declared.Reading.{Reading}
 use Rattle.sheet_text.specs.Reading.{read_of}
 use Rattle.sheet_text.proofs.Laws.Readings.{read_at}
 use Rattle.kinds.specs.declared.Numbers.{Numbers}
 use Rattle.kinds.specs.Kind.{numbers_of}
-use Rattle.shown.specs.declared.Printing.TheVariants.{Printed, Refused as PrintingRefused}
-use Rattle.shown.specs.Printing.{no_room}
 use Rattle.shown.specs.Line.{sheet_line}
+use Rattle.shown.specs.Promises.{Put}
 use Rattle.shown.proofs.Laws.Fits.{length-sheet_line}
-use Rattle.lines.specs.Pieces.{most_held, held_in, held_of, left_from, lines_text}
+use Rattle.lines.specs.Pieces.{most_held, left_from, lines_text}
 use Rattle.lines.proofs.Laws.Kept.{kept-short}
 use Rattle.lines.proofs.Laws.Fits.{lines_fit, last_fits}
-use Rattle.lines.proofs.Laws.Held.{held_none, kept_held}
-use Rattle.look.specs.declared.Phase.{Phase}
-use Rattle.look.specs.declared.Phase.TheVariants.{Sheet, Lines, Refused}
 use Rattle.look.specs.declared.Look.{Look}
 use Rattle.look.specs.declared.Stepped.{Stepped}
-use Rattle.look.specs.Steps.{State, Went, in_sheet, in_lines, refused_sheet, state_of, look_as, fed, decided, step_of, room_asked, has_room, stepped_of, after_step, last_text, end_of}
+use Rattle.look.specs.Steps.{State, in_sheet, in_lines, refused_sheet, state_of, fed, decided_by, decided, step_of, room_asked, has_room, stepped_of, after_step, last_text, end_of}
 use Rattle.look.specs.Promises.{step≡, end≡}
-use Rattle.look.specs.Inner.{WentTo}
+use Rattle.look.specs.Inner.{WentTo, last_room}
 use Rattle.look.proofs.Laws.Pieces.{kept_back, decided-kept}
-use Rattle.look.proofs.Laws.Steps.{step_held, step_decides, state-sheet, state-lines, state-refused}
+use Rattle.look.proofs.Laws.Steps.{step_held, step_decides}
 
 -- ---- a refusal's line
 
@@ -41,26 +41,23 @@ use Rattle.look.proofs.Laws.Steps.{step_held, step_decides, state-sheet, state-l
 pub sheet_line-length : (n : ℕ) → length (sheet_line n) ≤ n + 8
 sheet_line-length n = omega (arith, length-sheet_line n, length-decimal n)
 
--- ---- what a piece prints, and what is held behind it
+-- ---- what a piece prints, and the room that is asked for what is left behind it
 
 -- lines
-pub fed-room : (n : Numbers) (line s : List ℕ)
-    → length (fed n line s).text + 10 * length (held_in (look_as (fed n line s).to).held) ≤ 10 * (length line + length s)
-unfolding fed look_as lines_text
-fed-room n line s = rw (kept_held (left_from line s)) (omega (arith, lines_fit n line s, kept-short (left_from line s)))
+pub fed-room : (n : Numbers) (line s : List ℕ) → length (fed n line s).text + last_room (fed n line s).to ≤ 10 * (length line + length s + 1)
+unfolding fed lines_text
+fed-room n line s = omega (arith, lines_fit n line s, kept-short (left_from line s))
 
 -- a sheet that is decided
-pub decided-room : (t : List ℕ) (m : ℕ) → length t ≤ m → most_held ≤ m
-    → length (decided t).text + 10 * (length (held_in (look_as (decided t).to).held) + 1) ≤ 10 * (m + 1)
+decided_by-room : (t : List ℕ) (r : Result Reading Refusal) (m : ℕ) → read_of t ≡ r → length t ≤ m → most_held ≤ m
+    → length (decided_by t r).text + last_room (decided_by t r).to ≤ 10 * (m + 1)
+unfolding decided_by
+decided_by-room t (Ok r) m e h l = omega (arith, fed-room (numbers_of r.sheet) [] (drop r.used t), length-drop r.used t)
+decided_by-room t (Err refusal) m e h l = omega (arith, sheet_line-length (refusal_line refusal), read_at t refusal e)
+
+pub decided-room : (t : List ℕ) (m : ℕ) → length t ≤ m → most_held ≤ m → length (decided t).text + last_room (decided t).to ≤ 10 * (m + 1)
 unfolding decided
-decided-room t m h l =
-    let r = read_of t in
-    let n = numbers_of r.sheet in
-    let s = drop r.used t in
-    let P : Went → Type 0 = λ w. length w.text + 10 * (length (held_in (look_as w.to).held) + 1) ≤ 10 * (m + 1) in
-    pick-cases P (eqb r.refusal.number 0) (fed n [] s) (record { to = refused_sheet; text = sheet_line r.refusal.at })
-    (λ _. omega (arith, fed-room n [] s, length-drop r.used t))
-    (λ _. unfold look_as in rw (held_none (held_of []) refl) (omega (arith, sheet_line-length r.refusal.at, read_at t)))
+decided-room t m h l = decided_by-room t (read_of t) m refl h l
 
 -- a piece of the sheet
 pub sheet-fits : (t piece : List ℕ) → length t ≤ most_held → length (step_of (in_sheet t) piece).text ≤ room_asked (length piece)
@@ -80,70 +77,56 @@ lines-step-fits n line piece h = omega (arith, fed-room n line piece)
 
 module _ (look : Look) (piece out : List ℕ) where
   -- without room nothing is taken
-  pub step-none : leb (room_asked (length piece)) (length out) ≡ false
-      → step≡ look piece out (record { look = look; written = 0; refusal = no_room }) out
+  pub step-none : leb (room_asked (length piece)) (length out) ≡ false → step≡ look piece out (Err NoRoom) out
   unfolding stepped_of after_step has_room
   step-none e = (rw e, rw e)
 
   -- with room the text is put into the front
   pub step-done : leb (room_asked (length piece)) (length out) ≡ true → (r : Stepped) (now : List ℕ)
-      → WentTo (step_of (state_of look) piece) out 0 r now → length (step_of (state_of look) piece).text ≤ length out → step≡ look piece out r now
+      → WentTo (step_of (state_of look) piece) out 0 r now → length (step_of (state_of look) piece).text ≤ length out → step≡ look piece out (Ok r) now
   unfolding stepped_of after_step has_room
   step-done e r now w fits =
-      (w.done ∙ rw (e, zero-add), rw (e, over-put_at (step_of (state_of look) piece).text out fits) w.put)
+      (ap Ok w.done ∙ rw (e, zero-add), rw (e, over-put_at (step_of (state_of look) piece).text out fits) w.put)
 
 -- ---- the end
 
-module _ (look : Look) where
-  -- what is kept, by the phase
-  by-phase : (P : State → Type 0) → (look.phase ≡ Sheet → P (in_sheet (held_in look.held)))
-      → (look.phase ≡ Lines → P (in_lines look.numbers (held_in look.held))) → (look.phase ≡ Refused → P refused_sheet) → P (state_of look)
-  by-phase P f g h = at look.phase refl
-    where
-      at : (p : Phase) → look.phase ≡ p → P (state_of look)
-      at Sheet e = rw (state-sheet look e) (f e)
-      at Lines e = rw (state-lines look e) (g e)
-      at Refused e = rw (state-refused look e) (h e)
+-- the last line takes no more than the room that is asked for it
+pub last-fits : (s : State) → length (last_text s) ≤ last_room s
+unfolding last_text
+last-fits (in_sheet t) = omega arith
+last-fits (in_lines n line) = last_fits n line
+last-fits refused_sheet = omega arith
 
-  -- behind a sheet there is but the last line left
-  pub end-behind : (look.phase ≡ Sheet → ⊥) → end_of (state_of look) ≡ last_text (state_of look)
-  unfolding end_of last_text
-  end-behind h = by-phase (λ (s : State). end_of s ≡ last_text s) (λ e. absurd (h e)) (λ _. refl) (λ _. refl)
+module _ (look : Look) (out : List ℕ) where
+  -- without room nothing is printed
+  pub end_none : length out < room_asked 0 → end≡ look out (Err NoRoom) out
+  end_none h = let e = lt-leb (room_asked 0) (length out) h in (rw e, rw e)
 
-  -- the last line takes ten octets for each that is held and its LF
-  pub last-room : length (last_text (state_of look)) ≤ 10 * (length (held_in look.held) + 1)
-  unfolding last_text
-  last-room =
-      by-phase (λ (s : State). length (last_text s) ≤ 10 * (length (held_in look.held) + 1))
-      (λ _. omega arith) (λ _. last_fits look.numbers (held_in look.held)) (λ _. omega arith)
-
-  module _ (out : List ℕ) where
-    -- without room nothing is printed
-    pub end_none : length out < room_asked 0 → end≡ look out (PrintingRefused no_room) out
-    end_none h = let e = lt-leb (room_asked 0) (length out) h in (rw e, rw e)
-
-    -- with room the text is put into the front
-    pub end-done : room_asked 0 ≤ length out → (end : ℕ) (now : List ℕ) → end ≡ 0 + length (end_of (state_of look)) → now ≡ put_at out 0 (end_of (state_of look))
-        → length (end_of (state_of look)) ≤ length out → end≡ look out (Printed end) now
-    end-done h end now i p fits =
-        let e = le-leb (room_asked 0) (length out) h in
-        (rw (e, i, zero-add), rw (e, over-put_at (end_of (state_of look)) out fits) p)
+  -- with room the text is put into the front
+  pub end-done : room_asked 0 ≤ length out → (end : ℕ) (now : List ℕ) → Put (end_of (state_of look)) out 0 end now → length (end_of (state_of look)) ≤ length out
+      → end≡ look out (Ok end) now
+  end-done h end now put fits =
+      let e = le-leb (room_asked 0) (length out) h in
+      (rw (e, put.1, zero-add), rw (e, over-put_at (end_of (state_of look)) out fits) put.0)
 
 -- a sheet that is decided only now
 module _ (t : List ℕ) (h : length t ≤ most_held) (out : List ℕ) (room : room_asked 0 ≤ length out) (r : Stepped) (mid : List ℕ)
     (w : WentTo (decided t) out 0 r mid) where
+  -- what is kept is what was decided
+  kept-is : state_of r.look ≡ (decided t).to
+  kept-is = ap (λ (x : Stepped). state_of x.look) w.done ∙ kept_back (decided t).to (decided-kept t)
+
   -- there is room for the last line
-  pub decided-leaves : r.written + 10 * (length (held_in r.look.held) + 1) ≤ length out
-  decided-leaves = rw w.done (omega (arith, decided-room t most_held h (omega arith)))
+  pub decided-leaves : r.written + last_room (state_of r.look) ≤ length out
+  decided-leaves = rw (kept-is, w.done) (omega (arith, decided-room t most_held h (omega arith)))
 
   -- it is printed behind the others
-  pub decided-end : (past : ℕ) (now : List ℕ) → now ≡ put_at mid r.written (last_text (state_of r.look)) → past ≡ r.written + length (last_text (state_of r.look))
-      → (past ≡ 0 + length (end_of (in_sheet t))) × (now ≡ put_at out 0 (end_of (in_sheet t))) × (length (end_of (in_sheet t)) ≤ length out)
+  pub decided-end : (past : ℕ) (now : List ℕ) → Put (last_text (state_of r.look)) mid r.written past now
+      → Put (end_of (in_sheet t)) out 0 past now × (length (end_of (in_sheet t)) ≤ length out)
   unfolding end_of
-  decided-end past now p q =
+  decided-end past now put =
       let last = last_text (decided t).to in
       let written : r.written ≡ 0 + length (decided t).text = ap (λ (x : Stepped). x.written) w.done in
-      let s : state_of r.look ≡ (decided t).to = ap (λ (x : Stepped). state_of x.look) w.done ∙ kept_back (decided t).to (decided-kept t) in
-      let fits : r.written + length last ≤ length out = rw (← s) (omega (arith, last-room r.look, decided-leaves)) in
-      let both = put_both out 0 (decided t).text last mid r.written now past w.put written (rw s at p) (rw s at q) fits in
-      (both.1, both.0, rw length-append (omega arith))
+      let fits : r.written + length last ≤ length out = rw (← kept-is) (omega (arith, last-fits (state_of r.look), decided-leaves)) in
+      let both = put_both out 0 (decided t).text last mid r.written now past w.put written (rw kept-is at put.0) (rw kept-is at put.1) fits in
+      (both, rw length-append (omega arith))

@@ -1,14 +1,19 @@
--- Laws of the steps: the phases, the sheet that is decided, and what a piece prints. Assumes nothing.
+-- Laws of the steps: the sheet that is decided, and what a piece prints. Assumes nothing.
 use mathlib.Core.Path.{◌≡◌, refl, sym, ap, ◌∙◌}
 use mathlib.Core.Logic.{◌⊎◌}
+use mathlib.Core.Bool.{false}
 use Prim.Native.Nat.{ℕ, ◌+◌, ◌*◌, ◌≤◌, ◌<◌}
 use native.Mathlib.Omega.{arith}
 use mathlib.Core.List.{List, [], ◌++◌}
 use lib.ListN.{length, take, drop, take-append-drop}
 use lib.Seq.{drop-append-le, drop-append-add}
-use borrow.Author.Tests.{eq-eqb, ne_eqb, lt-ltb, le-ltb}
+use borrow.Author.Tests.{lt-ltb, le-ltb}
+use Rattle.std.specs.Prelude.{Ok, Err}
 use Rattle.octets.specs.Buffer.{put_at}
 use Rattle.octets.proofs.Buffer.{put_both}
+use Rattle.sheet.specs.declared.Refusal.{Refusal}
+use Rattle.sheet.specs.Refusal.{refusal_line}
+use Rattle.sheet_text.specs.declared.Reading.{Reading}
 use Rattle.sheet_text.specs.Reading.{read_of}
 use Rattle.kinds.specs.Kind.{numbers_of}
 use Rattle.kinds.specs.declared.Numbers.{Numbers}
@@ -18,41 +23,42 @@ use Rattle.lines.specs.Pieces.{held_in, held_of, kept_of, most_held, left_from, 
 use Rattle.lines.proofs.Laws.Kept.{kept-short}
 use Rattle.lines.proofs.Laws.Fits.{lines_fit}
 use Rattle.lines.proofs.Laws.Held.{kept_held}
-use Rattle.look.specs.declared.Phase.TheVariants.{Sheet, Lines, Refused}
 use Rattle.look.specs.declared.Look.{Look}
+use Rattle.look.specs.declared.Look.TheVariants.{Sheet, Lines, Refused}
 use Rattle.look.specs.declared.Stepped.{Stepped}
-use Rattle.look.specs.Steps.{in_sheet, in_lines, refused_sheet, state_of, fed, decided, step_of}
+use Rattle.look.specs.Steps.{in_sheet, refused_sheet, is_refused, state_of, fed, decided_by, decided, step_of, last_text}
 use Rattle.look.specs.Inner.{WentTo}
 use Rattle.look.proofs.Laws.Pieces.{read_held, used-within, fed-append}
 
--- ---- the phases
+-- ---- what is kept
 
-module _ (look : Look) where
-  pub state-sheet : look.phase ≡ Sheet → state_of look ≡ in_sheet (held_in look.held)
-  unfolding state_of
-  state-sheet e = rw e
+-- but for lines there is no last line
+pub last-none : (look : Look) → ((n : Numbers) (held : Held) → look ≡ Lines n held → ⊥) → last_text (state_of look) ≡ []
+unfolding last_text state_of
+last-none (Sheet held) f = refl
+last-none (Lines n held) f = absurd (f n held refl)
+last-none Refused f = refl
 
-  pub state-lines : look.phase ≡ Lines → state_of look ≡ in_lines look.numbers (held_in look.held)
-  unfolding state_of
-  state-lines e = rw e
-
-  pub state-refused : look.phase ≡ Refused → state_of look ≡ refused_sheet
-  unfolding state_of
-  state-refused e = rw e
+-- of the states only one is that of a refused sheet
+pub not_refused : (look : Look) → (look ≡ Refused → ⊥) → is_refused (state_of look) ≡ false
+unfolding is_refused state_of
+not_refused (Sheet held) f = refl
+not_refused (Lines n held) f = refl
+not_refused Refused f = absurd (f refl)
 
 -- ---- the sheet is decided
 
 module _ (t rest : List ℕ) (h : (length t ≡ most_held) ⊎ (rest ≡ [])) where
   -- a refused sheet
-  pub decided-refused : ((read_of t).refusal.number ≡ 0 → ⊥) → decided (t ++ rest) ≡ record { to = refused_sheet; text = sheet_line (read_of t).refusal.at }
-  unfolding decided
-  decided-refused e = rw (read_held t rest h, ne_eqb (read_of t).refusal.number 0 e)
+  pub decided-refused : (refusal : Refusal) → read_of t ≡ Err refusal
+      → decided (t ++ rest) ≡ record { to = refused_sheet; text = sheet_line (refusal_line refusal) }
+  unfolding decided decided_by
+  decided-refused refusal e = rw (read_held t rest h, e)
 
   -- a sheet that is read, and lines behind it
-  pub decided-read : (read_of t).refusal.number ≡ 0 → decided (t ++ rest) ≡ fed (numbers_of (read_of t).sheet) [] (drop (read_of t).used t ++ rest)
-  unfolding decided
-  decided-read e =
-      rw (read_held t rest h, eq-eqb (read_of t).refusal.number 0 e, drop-append-le (read_of t).used t rest (used-within t))
+  pub decided-read : (r : Reading) → read_of t ≡ Ok r → decided (t ++ rest) ≡ fed (numbers_of r.sheet) [] (drop r.used t ++ rest)
+  unfolding decided decided_by
+  decided-read r e = rw (read_held t rest h, e, drop-append-le r.used t rest (used-within t r e))
 
 -- ---- two pieces one after the other
 

@@ -2,18 +2,17 @@
 use mathlib.Core.Path.{ap₂}
 use Prim.Native.Nat.{ℕ}
 use native.Mathlib.Omega.{arith}
-use Rattle.sheet_text.specs.Reading.{no_refusal}
 use Rattle.kinds.specs.declared.Numbers.{Numbers}
 use Rattle.lines.specs.declared.held.Held.{Held}
 use Rattle.lines.proofs.Laws.Pieces.{lines-put}
-use Rattle.look.specs.declared.Phase.TheVariants.{Lines}
+use Rattle.look.specs.declared.Look.TheVariants.{Lines}
 use Rattle.look.specs.declared.Stepped.{Stepped}
 use Rattle.look.specs.Steps.{fed, look_as}
 use Rattle.look.proofs.in_lines.Goals as goal
 
 -- what is kept in lines, and where the text ends
 abbrev stepped-in : Numbers → Held → ℕ → Stepped
-stepped-in n held end = record { look = record { phase = Lines; numbers = n; held = held }; written = end; refusal = no_refusal }
+stepped-in n held end = record { look = Lines n held; written = end }
 
 pub returns : goal.returns
 unfolding fed look_as

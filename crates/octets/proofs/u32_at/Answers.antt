@@ -1,11 +1,8 @@
--- `octets::u32_at` meets its contract: a number of four octets is two of two, the first times 65536 (`big_at-add`).
--- Assumes nothing.
-use mathlib.Core.Path.{sym}
-use Rattle.octets.proofs.Big.{big_at-add, big_at-end}
+-- `octets::u32_at` meets its contract: std's number of the four octets is the definition's (`big_at-four`). Assumes nothing.
+use Rattle.octets.proofs.Big.{big_at-four}
 use Rattle.octets.proofs.u32_at.Goals as goal
 
-pub returns-then-s-at : goal.returns-then-s-at
-returns-then-s-at c = sym (big_at-end 4 c.args.s.now c.args.at c.if-s-at.true)
-
 pub returns : goal.returns
-returns c = rw (c.u16_at.ensures, c.u16_at-2.ensures) (sym (big_at-add 2 2 _ _))
+returns c =
+    rw (c.from_be_bytes.ensures, c.octet_at.ensures, c.octet_at-2.ensures, c.octet_at-3.ensures, c.octet_at-4.ensures, c.rest_at-rest.ensures)
+    (big_at-four c.args.s.now c.args.at)

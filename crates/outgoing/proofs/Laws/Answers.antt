@@ -13,7 +13,7 @@ use Rattle.octets.proofs.Choice.{T_true, true-T, false-T}
 use Rattle.sheet.specs.declared.Sheet.{Sheet}
 use Rattle.sheet.specs.Value.{name_of, sheet_from, valid_with}
 use Rattle.sheet.proofs.Laws.Rows.{length-name_of-le, take-name_of}
-use Rattle.packet.specs.declared.Indicator.TheVariants.{Absent}
+use Rattle.std.specs.Prelude.{None}
 use Rattle.packet.specs.declared.Verdict.{Verdict}
 use Rattle.packet.specs.declared.Verdict.TheVariants as verdict
 use Rattle.packet.specs.declared.Message.{Message}
@@ -79,7 +79,7 @@ cause-number c h = ne_eqb c no_number (λ e. omega arith)
 -- the row that is made of an answer's goes out for it
 module _ (server len : ℕ) where
   abbrev response : Verdict → Message
-  response v = ReceiveResponse (server_head server) v Absent
+  response v = ReceiveResponse (server_head server) v None
 
   abbrev end-response : Message
   end-response = EndResponse (server_head server) (record { at = 0; len = len })
@@ -93,7 +93,7 @@ module _ (server len : ℕ) where
   row_goes Ended h = goes-out end-response tt refl (lit< tt)
   row_goes EndedLast h = goes-out end-response tt refl (lit< tt)
   row_goes Opened h = refl
-  row_goes (EndRequested c) h = goes-out (TransmissionEnd (server_head server) c Absent) (rw (cause-number c h) tt) refl (lit< tt)
+  row_goes (EndRequested c) h = goes-out (TransmissionEnd (server_head server) c None) (rw (cause-number c h) tt) refl (lit< tt)
   row_goes Freed h = refl
   row_goes FreedWithAck h = goes-out (Ack (server_head server) 2 1) tt refl (lit< tt)
   row_goes ReleasedIdle h = refl

@@ -1,7 +1,6 @@
 -- `outgoing::packet_lent` meets its contract: past the checks the numbers are those of a valid sheet, the row lent is an answer's, and
 -- the row beside it is that of the stream's user. Assumes nothing.
-use borrow.Author.Rules.{rules}
-use mathlib.Core.Bool.{true}
+use mathlib.Core.Bool.{true, false}
 use mathlib.Core.List.{List}
 use mathlib.Core.Option.{some}
 use mathlib.Core.Path.{◌≡◌, refl, sym, ap, ◌∙◌}
@@ -18,7 +17,8 @@ use Rattle.plan.proofs.Laws.Fitting.{valid-fitting}
 use Rattle.streams.specs.declared.Answer.{Answer}
 use Rattle.writing.specs.Writing.{told, after}
 use Rattle.rows.specs.Rows.{is_some, answer_in}
-use Rattle.outgoing.proofs.Laws.Answers.{answer-counted, is-some, in-invalid, in-off, in-none, in_on}
+use Rattle.rows.proofs.Laws.Answers.{answer_uncounted}
+use Rattle.outgoing.proofs.Laws.Answers.{is-some, in-invalid, in-off, in-none, in_on}
 use Rattle.sheet.proofs.Laws.Seats.{valid-alone}
 use Rattle.outgoing.proofs.packet_lent.Goals as goal
 
@@ -45,6 +45,10 @@ module _ (ns : List ℕ) (users : List (List ℕ)) (passed : valid_with (sheet_i
   few : (sheet_in ns).seats ≤ 8
   unfolding most_seats
   few = few_seats (sheet_in ns) alone
+
+-- a row of another length stands for none
+miscounted : (row : List ℕ) → (length row ≡ 6 → ⊥) → is_some (answer_in row) ≡ false
+miscounted row n = ap is_some (answer_uncounted row n)
 
 -- a row that passes the third check stands for an answer
 given : (row : List ℕ) → is_some (answer_in row) ≡ true → (a : Answer) × (answer_in row ≡ some a)
@@ -78,20 +82,28 @@ bounds-users-stream c =
     let passed = sym c.are_valid_with.ensures ∙ c.if-not-are_valid_with.false in
     omega (arith, seats ns c.args.users.now passed, few ns c.args.users.now passed, c.if-numbers-stream.false)
 
+pub returns-in_default : goal.returns-in_default
+unfolding told after
+returns-in_default c =
+    let a = c.args in
+    let passed = sym c.are_valid_with.ensures ∙ c.if-not-are_valid_with.false in
+    rw (in-none (sheet_in a.numbers.now) a.users.now a.stream (length a.out.now) (answer_in a.answer.now) passed
+    (miscounted a.answer.now c.in_default.ensures.1))
+    (refl, refl)
+
 pub returns-then-not-is_answer : goal.returns-then-not-is_answer
 unfolding told after
 returns-then-not-is_answer c =
     let a = c.args in
     let passed = sym c.are_valid_with.ensures ∙ c.if-not-are_valid_with.false in
     rw (in-none (sheet_in a.numbers.now) a.users.now a.stream (length a.out.now) (answer_in a.answer.now) passed
-    (sym c.is_answer.ensures ∙ c.if-not-is_answer.true))
+    (ap (λ (row : List ℕ). is_some (answer_in row)) (sym c.in-Ok.ensures.1.same) ∙ sym c.is_answer.ensures ∙ c.if-not-is_answer.true))
     (refl, refl)
 
 pub send-requires : goal.send-requires
 send-requires c =
     let passed = sym c.are_valid_with.ensures ∙ c.if-not-are_valid_with.false in
-    let answer = given c.args.answer.now (sym c.is_answer.ensures ∙ c.if-not-is_answer.false) in
-    (valid-fitting _ (alone c.args.numbers.now c.args.users.now passed), search rules, answer-counted _ answer.0 answer.1)
+    valid-fitting _ (alone c.args.numbers.now c.args.users.now passed)
 
 pub returns : goal.returns
 returns c =
@@ -99,9 +111,10 @@ returns c =
     let ns = a.numbers.now in
     let passed = sym c.are_valid_with.ensures ∙ c.if-not-are_valid_with.false in
     let on : a.stream < (sheet_in ns).seats = omega (arith, seats ns a.users.now passed, c.if-numbers-stream.false) in
-    let answer = given a.answer.now (sym c.is_answer.ensures ∙ c.if-not-is_answer.false) in
+    let same : c.in-Ok.answer.now ≡ a.answer.now = c.in-Ok.ensures.1.same in
+    let answer = given c.in-Ok.answer.now (sym c.is_answer.ensures ∙ c.if-not-is_answer.false) in
     rw (
-      in_on (sheet_in ns) a.users.now a.stream (length a.out.now) (answer_in a.answer.now) answer.0 answer.1 passed on,
+      in_on (sheet_in a.numbers.now) a.users.now a.stream (length a.out.now) (answer_in a.answer.now) answer.0 (ap answer_in (sym same) ∙ answer.1) passed on,
       own ns a.users.now passed,
     )
     (c.send.ensures answer.0 answer.1)

@@ -11,5 +11,5 @@ pub returns : goal.returns
 unfolding sending_in most_seats
 returns c =
     -- the sheet is the one that the numbers stand for
-    let own : sheet_in c.numbers_of-numbers.result ≡ c.args.sheet = sheet_in-own _ _ (search rules) c.numbers_of-numbers.ensures in
-    rw (own, c.row_of-row.ensures.1) at c.packet_lent.ensures
+    let own : sheet_in c.numbers_of.result ≡ c.args.sheet = sheet_in-own _ _ (search rules) c.numbers_of.ensures in
+    rw (own, c.row_of.ensures.1, c.from.ensures) at c.packet_lent.ensures

@@ -9,8 +9,7 @@ use Rattle.octets.proofs.Choice.{T_true, T_false, T-and-left, T-and-right, same_
 use mir.Val.{bool_byte}
 use Rattle.packet.specs.declared.Head.{Head}
 use Rattle.packet.specs.declared.Name.{Name}
-use Rattle.packet.specs.declared.Indicator.{Indicator}
-use Rattle.packet.specs.declared.Indicator.TheVariants.{Absent, Given}
+use Rattle.std.specs.Prelude.{Option, Some, None}
 use Rattle.packet.specs.declared.Verdict.{Verdict}
 use Rattle.packet.specs.declared.Verdict.TheVariants.{Granted, Rejected}
 use Rattle.packet.specs.declared.Message.{Message}
@@ -29,31 +28,31 @@ abbrev nobody : Name
 nobody = record { at = 0; len = 0 }
 
 module _ (h : Head) where
-  pub row-request : (user source : Name) (i : Indicator)
+  pub row-request : (user source : Name) (i : Option ℕ)
       → row_with 1 h user source no_number no_number (indicator_number i) no_number no_number ≡ row_for (ReceiveRequest h user source i)
   unfolding message_row columns with_all with_held
-  row-request user source Absent = refl
-  row-request user source (Given n) = refl
+  row-request user source None = refl
+  row-request user source (Some n) = refl
 
-  pub row-response : (v : Verdict) (i : Indicator)
+  pub row-response : (v : Verdict) (i : Option ℕ)
       → row_with 2 h nobody nobody (result_number v) (cause_number v) (indicator_number i) no_number no_number ≡ row_for (ReceiveResponse h v i)
   unfolding message_row columns with_all with_held
-  row-response Granted Absent = refl
-  row-response Granted (Given n) = refl
-  row-response (Rejected cause) Absent = refl
-  row-response (Rejected cause) (Given n) = refl
+  row-response Granted None = refl
+  row-response Granted (Some n) = refl
+  row-response (Rejected cause) None = refl
+  row-response (Rejected cause) (Some n) = refl
 
-  pub row-end-request : (transmitter : Name) (i : Indicator)
+  pub row-end-request : (transmitter : Name) (i : Option ℕ)
       → row_with 3 h nobody transmitter no_number no_number (indicator_number i) no_number no_number ≡ row_for (EndRequest h transmitter i)
   unfolding message_row columns with_all with_held
-  row-end-request transmitter Absent = refl
-  row-end-request transmitter (Given n) = refl
+  row-end-request transmitter None = refl
+  row-end-request transmitter (Some n) = refl
 
-  pub row-end : (cause : ℕ) (i : Indicator)
+  pub row-end : (cause : ℕ) (i : Option ℕ)
       → row_with 5 h nobody nobody no_number cause (indicator_number i) no_number no_number ≡ row_for (TransmissionEnd h cause i)
   unfolding message_row columns with_all with_held
-  row-end cause Absent = refl
-  row-end cause (Given n) = refl
+  row-end cause None = refl
+  row-end cause (Some n) = refl
 
 -- ---- a message's row stands for it
 
@@ -67,18 +66,18 @@ number-told n t = T_false (eqb n no_number) (λ u. T_not (eqb n no_number) t u)
 -- what its numbers say
 row-says : (m : Message) → T (is_message m) → numbers_say (row_for m) ≡ message_said m
 unfolding numbers_say message_row columns held_in with_all with_held is_message
-row-says (ReceiveRequest h user source Absent) t = rw (flag_one h.ack)
-row-says (ReceiveRequest h user source (Given n)) t = rw (flag_one h.ack, number-told n t)
-row-says (ReceiveResponse h Granted Absent) t = rw (flag_one h.ack)
-row-says (ReceiveResponse h Granted (Given n)) t = rw (flag_one h.ack, number-told n t)
-row-says (ReceiveResponse h (Rejected cause) Absent) t = rw (flag_one h.ack, number-told cause (T-and-left (is_number cause) true t))
-row-says (ReceiveResponse h (Rejected cause) (Given n)) t =
+row-says (ReceiveRequest h user source None) t = rw (flag_one h.ack)
+row-says (ReceiveRequest h user source (Some n)) t = rw (flag_one h.ack, number-told n t)
+row-says (ReceiveResponse h Granted None) t = rw (flag_one h.ack)
+row-says (ReceiveResponse h Granted (Some n)) t = rw (flag_one h.ack, number-told n t)
+row-says (ReceiveResponse h (Rejected cause) None) t = rw (flag_one h.ack, number-told cause (T-and-left (is_number cause) true t))
+row-says (ReceiveResponse h (Rejected cause) (Some n)) t =
     rw (flag_one h.ack, number-told cause (T-and-left (is_number cause) (is_number n) t), number-told n (T-and-right (is_number cause) (is_number n) t))
-row-says (EndRequest h transmitter Absent) t = rw (flag_one h.ack)
-row-says (EndRequest h transmitter (Given n)) t = rw (flag_one h.ack, number-told n t)
+row-says (EndRequest h transmitter None) t = rw (flag_one h.ack)
+row-says (EndRequest h transmitter (Some n)) t = rw (flag_one h.ack, number-told n t)
 row-says (EndResponse h transmitter) t = rw (flag_one h.ack)
-row-says (TransmissionEnd h cause Absent) t = rw (flag_one h.ack, number-told cause (T-and-left (is_number cause) true t))
-row-says (TransmissionEnd h cause (Given n)) t =
+row-says (TransmissionEnd h cause None) t = rw (flag_one h.ack, number-told cause (T-and-left (is_number cause) true t))
+row-says (TransmissionEnd h cause (Some n)) t =
     rw (flag_one h.ack, number-told cause (T-and-left (is_number cause) (is_number n) t), number-told n (T-and-right (is_number cause) (is_number n) t))
 row-says (TransmissionEndResponse h) t = rw (flag_one h.ack)
 row-says (Ack h source about) t =

@@ -7,4 +7,4 @@ use Rattle.packet.proofs.read.Goals as goal
 
 pub returns : goal.returns
 unfolding most_seats
-returns c = rw (c.read_lent.ensures, sheet_in-own _ _ (search rules) c.numbers_of-numbers.ensures)
+returns c = rw (c.read_lent.ensures, sheet_in-own _ _ (search rules) c.numbers_of.ensures)

@@ -3,9 +3,10 @@ use mathlib.Core.Path.{◌≡◌, refl, sym, ap, ◌∙◌}
 use mathlib.Core.Logic.{⊎_elim}
 use mathlib.Core.Bool.{◌&&◌}
 use mathlib.Core.List.{List}
-use mathlib.Core.Option.{Option, none, some, some-injective, some-ne-none, none-ne-some}
+use mathlib.Core.Option.{Option, none, some, some-injective, none-ne-some}
 use Prim.Native.Nat.{ℕ}
 use lib.Dec.{T}
+use Rattle.std.specs.Prelude.{Ok}
 use Rattle.octets.proofs.Choice.{pick-cases, T_true, T-and-left, T-and-right, decide}
 use Rattle.sheet.specs.declared.Sheet.{Sheet}
 use Rattle.sheet.specs.Value.{sheet_from}
@@ -13,10 +14,9 @@ use Rattle.kinds.specs.Kind.{numbers_of}
 use Rattle.packet.specs.Message.{message_said}
 use Rattle.packet.specs.Row.{message_in}
 use Rattle.plan.specs.declared.Plan.{Plan}
-use Rattle.plan.specs.declared.Planned.TheVariants.{Packet}
 use Rattle.packet.specs.Meaning.{Meaning, meaning}
 use Rattle.plan.specs.Packet.{packet_for, fits, fitting}
-use Rattle.plan.specs.Plan.{Said, plans, refuses, plan_said, plan_by, where_packet, plan_of, plan_right, plan_packet}
+use Rattle.plan.specs.Plan.{Said, refuses, plan_said, plan_by, where_packet, plan_of, plan_right, plan_packet}
 use Rattle.plan.specs.Inner.{plan_for, planned, is_message_row, numbers_fit, message_from}
 use Rattle.plan.specs.Promises.{planned_apart}
 use Rattle.plan.specs.Claims.{PlansThePacket, TakesItsSize}
@@ -41,16 +41,12 @@ laid_out names plan p e =
     e
 
 -- a refusal is no plan
-pub refuses-plan : (number : ℕ) (plan : Plan) → plan_said plan ≡ refuses number → ⊥
-refuses-plan number plan e = some-ne-none plan.ssrc (ap ssrc_in e)
-  where
-    ssrc_in : Said → Option ℕ
-    ssrc_in (plans start letters ssrc first second third) = some ssrc
-    ssrc_in (refuses n) = none
+pub refuses-plan : (number line : ℕ) (plan : Plan) → plan_said plan ≡ refuses number line → ⊥
+refuses-plan number line plan e = cc
 
 -- two plans that are said alike are the same
 plan-apart : (x y : Plan) → plan_said x ≡ plan_said y → x ≡ y
-plan-apart x y e = cc (planned_apart (Packet x) (Packet y) e)
+plan-apart x y e = cc (planned_apart (Ok x) (Ok y) e)
 
 -- a row with a packet stands for a message, whose numbers fit ..
 pub row-message : (s : Sheet) (row names p : List ℕ) → packet_for s (meaning names (message_in row)) ≡ some p → message_in row ≡ message_said (message_from row)
@@ -76,9 +72,9 @@ plan-laid s t row names p plan r e =
 pub plans_the_packet : PlansThePacket
 unfolding plan_of
 plans_the_packet ns row names plan e =
-    pick-cases (λ (x : Said). plan_said plan ≡ x → Laid (packet_for s message)) (fitting ns) (where_packet (packet_for s message) (plan_by s (message_in row))) (refuses 12)
+    pick-cases (λ (x : Said). plan_said plan ≡ x → Laid (packet_for s message)) (fitting ns) (where_packet (packet_for s message) (plan_by s (message_in row))) (refuses 12 0)
     (λ t q. by t (packet_for s message) refl q)
-    (λ f q. absurd (refuses-plan 12 plan q))
+    (λ f q. absurd (refuses-plan 12 0 plan q))
     e
   where
     s : Sheet
@@ -91,7 +87,7 @@ plans_the_packet ns row names plan e =
     Laid o = T (fitting ns) × T (plan_right names plan) × (o ≡ some (plan_packet names plan))
 
     by : T (fitting ns) → (o : Option (List ℕ)) → packet_for s message ≡ o → plan_said plan ≡ where_packet o (plan_by s (message_in row)) → Laid o
-    by t none r q = absurd (refuses-plan 5 plan q)
+    by t none r q = absurd (refuses-plan 5 0 plan q)
     by t (some p) r q = let l = plan-laid s (fitting-fits ns t) row names p plan r q in (t, l.0, ap some l.1)
 
 -- ---- its size

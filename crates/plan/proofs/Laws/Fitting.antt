@@ -1,12 +1,10 @@
 -- Laws of a sheet's numbers: which of them go into a packet, and that a valid sheet's do. Assumes nothing.
-use mathlib.Core.Path.{◌≡◌, refl, ap}
-use mathlib.Core.Bool.{Bool, true, false, ◌&&◌, and-true, and_assoc, and_comm}
+use mathlib.Core.Path.{◌≡◌, refl}
+use mathlib.Core.Bool.{Bool, false, ◌&&◌, and-true, and_assoc, and_comm}
 use mathlib.Core.List.{List, ◌++◌}
-use Prim.Native.Nat.{ℕ, zero, suc, ◌+◌, ◌-◌, ◌<◌, ◌≤◌}
-use native.Mathlib.Numerals.{add-one}
+use Prim.Native.Nat.{ℕ, ◌+◌, ◌<◌}
 use native.Mathlib.Omega.{arith}
-use lib.ListN.{length, get_or}
-use lib.Seq.{slice, slice-cons, slice_empty}
+use lib.ListN.{length, get_or, take, drop}
 use lib.Dec.{T, ltb, eqb, eqb→eq, ltb→lt, lit<}
 use borrow.Author.Tests.{lt-ltb, eq-eqb, ne_eqb}
 use Rattle.octets.specs.Choice.{every}
@@ -17,29 +15,24 @@ use Rattle.sheet.specs.Value as value
 use Rattle.sheet.specs.Value.{valid_alone}
 use Rattle.sheet.proofs.Laws.Bounds.{valid-within}
 use Rattle.sheet.proofs.Laws.Values.{sheet_in-counted, valid-counted}
+use Rattle.kinds.specs.declared.kind.Kind.{Kind as MessageKind}
+use Rattle.kinds.specs.declared.kind.Kind.TheVariants.{ReceiveRequest, ReceiveResponse, EndRequest, EndResponse, TransmissionEnd, TransmissionEndResponse, Ack}
+use Rattle.kinds.specs.Found.{kind_number}
 use Rattle.kinds.specs.Kind.{kinds, numbers_of}
 use Rattle.plan.specs.Packet.{fits, fitting}
 
 -- ---- numbers that go into their places
 
 -- one that goes into four bits
-abbrev short : ℕ → Bool
+abbrev pub short : ℕ → Bool
 short n = ltb n 16
 
--- the messages' numbers, on lines 2 to 8, do from line k on ..
-abbrev pub short_from : List ℕ → ℕ → Bool
-short_from ns k = every short (slice k 9 ns)
-
--- .. if line k's does, and those behind it do
-pub short_from-next : (ns : List ℕ) (k : ℕ) → k < 9 → 9 ≤ length ns → short_from ns k ≡ (short (get_or ns k 0) && short_from ns (k + 1))
-short_from-next ns k h l = rw (add-one, slice-cons k 9 ns 0 h l)
-
--- past the last there is none
-pub short_from-end : (ns : List ℕ) → short_from ns 9 ≡ true
-short_from-end ns = ap (every short) (slice_empty 9 ns)
+-- the messages' numbers, on lines 2 to 8
+abbrev pub messages : List ℕ → List ℕ
+messages ns = take 7 (drop 2 ns)
 
 -- numbers fit if the messages' go into four bits, and the Result's ID, on line 9, is below 192
-pub fits-is : (s : Sheet) (ns : List ℕ) → ns ≡ value.numbers_of s ++ s.ssrcs → fits (numbers_of s) ≡ (short_from ns 2 && ltb (get_or ns 9 0) 192)
+pub fits-is : (s : Sheet) (ns : List ℕ) → ns ≡ value.numbers_of s ++ s.ssrcs → fits (numbers_of s) ≡ (every short (messages ns) && ltb (get_or ns 9 0) 192)
 unfolding fits kinds numbers_of value.numbers_of
 fits-is s ns e = rw e (simp (and-true, and_assoc) (rw (and_comm (ltb s.resultid 192)) (simp and_assoc)))
 
@@ -59,26 +52,12 @@ pub small : (s : Sheet) → T (fits (numbers_of s)) → Small s
 unfolding value.numbers_of
 small s t =
     let ns = value.numbers_of s ++ s.ssrcs in
-    let messages = slice 2 9 ns in
+    let all = messages ns in
     let id = ltb s.resultid 192 in
-    let u : T (every short messages && id) = rw (fits-is s ns refl) at t in
-    let r = ltb→lt s.resultid 192 (T-and-right (every short messages) id u) in
-    let at : (i : ℕ) → i < 7 → get_or messages i 0 < 16 =
-    λ i l. ltb→lt (get_or messages i 0) 16 (every-get_or short messages i 0 (T-and-left (every short messages) id u) l) in
+    let u : T (every short all && id) = rw (fits-is s ns refl) at t in
+    let r = ltb→lt s.resultid 192 (T-and-right (every short all) id u) in
+    let at : (i : ℕ) → i < 7 → get_or all i 0 < 16 = λ i l. ltb→lt (get_or all i 0) 16 (every-get_or short all i 0 (T-and-left (every short all) id u) l) in
     omega (arith, at 0 (lit< tt), at 1 (lit< tt), at 2 (lit< tt), at 3 (lit< tt), at 4 (lit< tt), at 5 (lit< tt), at 6 (lit< tt))
-
--- by its kind
-pub small-kind : (ns : List ℕ) → T (fits (numbers_of (value.sheet_from ns))) → (kind : ℕ) → 1 ≤ kind → kind ≤ 7 → get_or ns (1 + kind) 0 < 16
-unfolding value.sheet_from value.sheet_by
-small-kind ns t (suc zero) h l = (small _ t).request
-small-kind ns t (suc (suc zero)) h l = (small _ t).response
-small-kind ns t (suc (suc (suc zero))) h l = (small _ t).endrequest
-small-kind ns t (suc (suc (suc (suc zero)))) h l = (small _ t).endresponse
-small-kind ns t (suc (suc (suc (suc (suc zero))))) h l = (small _ t).txend
-small-kind ns t (suc (suc (suc (suc (suc (suc zero)))))) h l = (small _ t).txendresponse
-small-kind ns t (suc (suc (suc (suc (suc (suc (suc zero))))))) h l = (small _ t).ack
-small-kind ns t zero h l = absurd (omega arith)
-small-kind ns t (suc (suc (suc (suc (suc (suc (suc (suc n)))))))) h l = absurd (omega arith)
 
 -- a valid sheet's numbers fit: each is within its line's bounds
 pub valid-fits : (s : Sheet) → T (valid_alone s) → T (fits (numbers_of s))
@@ -124,3 +103,18 @@ module _ (ns : List ℕ) where
   valid-fitting t =
       let long = valid-counted ns t in
       rw (fitting-is long, ← sheet_in-counted ns long) (valid-fits (value.sheet_in ns) t)
+
+  -- by kind
+  pub kind-small : T (fitting ns) → (k : MessageKind) → get_or ns (1 + kind_number k) 0 < 16
+  unfolding value.sheet_from value.sheet_by
+  kind-small t ReceiveRequest = (small _ (fitting-fits t)).request
+  kind-small t ReceiveResponse = (small _ (fitting-fits t)).response
+  kind-small t EndRequest = (small _ (fitting-fits t)).endrequest
+  kind-small t EndResponse = (small _ (fitting-fits t)).endresponse
+  kind-small t TransmissionEnd = (small _ (fitting-fits t)).txend
+  kind-small t TransmissionEndResponse = (small _ (fitting-fits t)).txendresponse
+  kind-small t Ack = (small _ (fitting-fits t)).ack
+
+  pub id-small : T (fitting ns) → get_or ns 9 0 < 256
+  unfolding value.sheet_from value.sheet_by
+  id-small t = let id = (small _ (fitting-fits t)).resultid in omega arith

@@ -1,11 +1,12 @@
 -- The message that a row stands for: where its numbers fit, it says what they say (`from-said`), they are no wider than its types (`from-width`), and its plan is
 -- right just if the row's names are (`from-right`). Assumes nothing.
 use mathlib.Core.Path.{◌≡◌, refl, sym}
-use Prim.Native.Nat.{ℕ, zero, suc, ◌+◌, ◌-◌, ◌*◌, ◌^◌, ◌≤◌, ◌<◌}
+use Prim.Native.Nat.{ℕ, zero, suc, ◌+◌, ◌*◌, ◌^◌, ◌≤◌, ◌<◌}
 use mathlib.Core.Bool.{Bool, true, false, ◌&&◌, and-true}
-use mathlib.Core.List.{List, map}
+use mathlib.Core.List.{List, [], ◌∷◌, map}
 use native.Mathlib.Omega.{arith}
 use lib.ListN.{get_or}
+use Rattle.std.specs.Prelude.{Some, None}
 use lib.Dec.{T, eqb, leb, ltb, leb→le, ltb→lt, lt→ltb, eqb→eq}
 use borrow.Author.Tests.{le-ltb, ne_eqb}
 use Rattle.octets.specs.Choice.{pick}
@@ -14,22 +15,22 @@ use Rattle.sheet.specs.Value.{sheet_by, sheet_from}
 use Rattle.kinds.specs.Judge.{absent, given}
 use Rattle.kinds.specs.Reading.{reads}
 use Rattle.packet.specs.Message.{indicator_said, result_said, cause_said, message_said}
-use Rattle.packet.specs.declared.Indicator.TheVariants.{Absent, Given}
 use Rattle.packet.specs.declared.Verdict.{Verdict}
 use Rattle.packet.specs.declared.Verdict.TheVariants.{Granted, Rejected}
 use Rattle.packet.specs.Row.{no_number, columns, held_in, numbers_say}
-use Rattle.plan.specs.declared.Part.TheVariants.{Absent as NoPart}
+use Rattle.plan.specs.declared.Part.TheVariants.{Absent}
 use Rattle.plan.specs.Packet.{within}
 use Rattle.plan.specs.Plan.{part_right, plan_right}
-use Rattle.plan.specs.Inner.{number_part, optional_part, named_part, indicator_part, result_part, cause_part, letters_for, fields_with, fields_for, plan_with, plan_for, number_from, indicator_fits, cause_fits, numbers_fit, indicator_from, verdict_from, message_as, message_from, indicator_within, verdict_within, in_width, name_right_at, names_right}
-use Rattle.plan.proofs.Laws.Rows.{by_kind, number-given, fits-request, fits-response, fits-end-request, fits-end, fits-ack}
+use Rattle.plan.specs.Inner.{number_part, optional_part, named_part, indicator_part, result_part, cause_part, letters_for, parts_for, plan_with, plan_for, number_from, indicator_fits, cause_fits, numbers_fit, indicator_from, verdict_from, message_as, message_from, indicator_within, verdict_within, in_width, name_right_at, names_right}
+use Rattle.plan.proofs.Laws.Fitting.{kind-small, id-small}
+use Rattle.plan.proofs.Laws.Rows.{fits, by_kind, number-given, fits-request, fits-response, fits-end-request, fits-end, fits-ack}
 
 -- ---- an Indicator
 
 indicator-said : (n : ℕ) → indicator_said (indicator_from n) ≡ number_from n
 indicator-said n = by (eqb n no_number)
   where
-    by : (b : Bool) → indicator_said (pick b Absent (Given n)) ≡ pick b absent (given n)
+    by : (b : Bool) → indicator_said (pick b None (Some n)) ≡ pick b absent (given n)
     by true = refl
     by false = refl
 
@@ -37,7 +38,7 @@ indicator-width : (n : ℕ) → T (indicator_fits n) → T (indicator_within (in
 unfolding indicator_fits
 indicator-width n = by (eqb n no_number)
   where
-    by : (b : Bool) → T (pick b true (ltb n 65536)) → T (indicator_within (pick b Absent (Given n)))
+    by : (b : Bool) → T (pick b true (ltb n 65536)) → T (indicator_within (pick b None (Some n)))
     by true t = tt
     by false t = t
 
@@ -45,7 +46,7 @@ indicator-width n = by (eqb n no_number)
 indicator-part : (n : ℕ) → optional_part 13 n ≡ indicator_part (indicator_from n)
 indicator-part n = by (eqb n no_number)
   where
-    by : (b : Bool) → pick b NoPart (number_part 13 n) ≡ indicator_part (pick b Absent (Given n))
+    by : (b : Bool) → pick b Absent (number_part 13 n) ≡ indicator_part (pick b None (Some n))
     by true = refl
     by false = refl
 
@@ -166,36 +167,36 @@ module _ (id : ℕ) (row : List ℕ) where
   abbrev held : ℕ → ℕ
   held k = get_or row k 0
 
-  pub fields-request : held 0 ≡ 1 → fields_for id (message_from row) ≡ fields_with (named_part row 3) (named_part row 5) (optional_part 13 (held 9))
+  pub parts-request : held 0 ≡ 1 → parts_for id (message_from row) ≡ named_part row 3 ∷ named_part row 5 ∷ optional_part 13 (held 9) ∷ []
   unfolding message_from message_as
-  fields-request e = rw (e, indicator-part (held 9))
+  parts-request e = rw (e, indicator-part (held 9))
 
-  pub fields-response : held 0 ≡ 2 → T (numbers_fit row)
-      → fields_for id (message_from row) ≡ fields_with (number_part id (held 7)) (optional_part 2 (held 8)) (optional_part 13 (held 9))
+  pub parts-response : held 0 ≡ 2 → T (numbers_fit row)
+      → parts_for id (message_from row) ≡ number_part id (held 7) ∷ optional_part 2 (held 8) ∷ optional_part 13 (held 9) ∷ []
   unfolding message_from message_as
-  fields-response e t =
+  parts-response e t =
       let v = (fit-verdict row t e).0 in
       rw (e, result-part id (held 7) (held 8) v, cause-part (held 7) (held 8) v, indicator-part (held 9))
 
-  pub fields-end-request : held 0 ≡ 3 → fields_for id (message_from row) ≡ fields_with (named_part row 5) (optional_part 13 (held 9)) NoPart
+  pub parts-end-request : held 0 ≡ 3 → parts_for id (message_from row) ≡ named_part row 5 ∷ optional_part 13 (held 9) ∷ Absent ∷ []
   unfolding message_from message_as
-  fields-end-request e = rw (e, indicator-part (held 9))
+  parts-end-request e = rw (e, indicator-part (held 9))
 
-  pub fields-end-response : held 0 ≡ 4 → fields_for id (message_from row) ≡ fields_with (named_part row 5) NoPart NoPart
+  pub parts-end-response : held 0 ≡ 4 → parts_for id (message_from row) ≡ named_part row 5 ∷ Absent ∷ Absent ∷ []
   unfolding message_from message_as
-  fields-end-response e = rw e
+  parts-end-response e = rw e
 
-  pub fields-end : held 0 ≡ 5 → fields_for id (message_from row) ≡ fields_with (number_part 2 (held 8)) (optional_part 13 (held 9)) NoPart
+  pub parts-end : held 0 ≡ 5 → parts_for id (message_from row) ≡ number_part 2 (held 8) ∷ optional_part 13 (held 9) ∷ Absent ∷ []
   unfolding message_from message_as
-  fields-end e = rw (e, indicator-part (held 9))
+  parts-end e = rw (e, indicator-part (held 9))
 
-  pub fields-transmission-response : held 0 ≡ 6 → fields_for id (message_from row) ≡ fields_with NoPart NoPart NoPart
+  pub parts-transmission-response : held 0 ≡ 6 → parts_for id (message_from row) ≡ Absent ∷ Absent ∷ Absent ∷ []
   unfolding message_from message_as
-  fields-transmission-response e = rw e
+  parts-transmission-response e = rw e
 
-  pub fields-ack : held 0 ≡ 7 → fields_for id (message_from row) ≡ fields_with (number_part 10 (held 10)) (number_part 12 (held 11 * 256)) NoPart
+  pub parts-ack : held 0 ≡ 7 → parts_for id (message_from row) ≡ number_part 10 (held 10) ∷ number_part 12 (held 11 * 256) ∷ Absent ∷ []
   unfolding message_from message_as
-  fields-ack e = rw e
+  parts-ack e = rw e
 
 -- ---- its plan
 
@@ -203,14 +204,14 @@ module _ (id : ℕ) (row : List ℕ) where
 pub from-plan : (ns row : List ℕ) → 1 ≤ get_or row 0 0 → get_or row 0 0 ≤ 7
     → plan_for (sheet_from ns) (message_from row)
     ≡ plan_with (record { ssrc = get_or row 1 0; ack = eqb (get_or row 2 0) 1 }) (letters_for (get_or row 0 0)) (get_or ns (1 + get_or row 0 0) 0)
-    (fields_for (get_or ns 9 0) (message_from row))
+    (parts_for (get_or ns 9 0) (message_from row))
 unfolding message_from message_as sheet_from sheet_by
 from-plan ns row above below =
     by_kind
     (λ (kind : ℕ).
     1 ≤ kind → kind ≤ 7
     → plan_for (sheet_from ns) (message_as kind row)
-    ≡ plan_with (record { ssrc = get_or row 1 0; ack = eqb (get_or row 2 0) 1 }) (letters_for kind) (get_or ns (1 + kind) 0) (fields_for (get_or ns 9 0) (message_as kind row)))
+    ≡ plan_with (record { ssrc = get_or row 1 0; ack = eqb (get_or row 2 0) 1 }) (letters_for kind) (get_or ns (1 + kind) 0) (parts_for (get_or ns 9 0) (message_as kind row)))
     (λ h l. absurd (omega arith))
     (λ h l. refl)
     (λ h l. refl)
@@ -230,7 +231,7 @@ from-plan ns row above below =
 right-indicator : (names : List ℕ) (n : ℕ) → part_right names (indicator_part (indicator_from n)) ≡ true
 right-indicator names n = by (eqb n no_number)
   where
-    by : (b : Bool) → part_right names (indicator_part (pick b Absent (Given n))) ≡ true
+    by : (b : Bool) → part_right names (indicator_part (pick b None (Some n))) ≡ true
     by true = refl
     by false = refl
 
@@ -247,10 +248,10 @@ from-right ns names row above below =
     let kept = right-indicator names (at 9) in
     by_kind (λ (kind : ℕ). at 0 ≡ kind → 1 ≤ kind → kind ≤ 7 → plan_right names (plan_for (sheet_from ns) (message_as kind row)) ≡ names_right names row)
     (λ e h l. absurd (omega arith))
-    (λ e h l. rw (e, kept, and-true))
+    (λ e h l. rw (e, kept) (simp and-true))
     (λ e h l. let v = right_verdict names (sheet_from ns).resultid (verdict_from (at 7) (at 8)) in rw (e, v.0, v.1, kept))
-    (λ e h l. rw (e, kept, and-true))
-    (λ e h l. rw (e, and-true))
+    (λ e h l. rw (e, kept) (simp and-true))
+    (λ e h l. rw e (simp and-true))
     (λ e h l. rw (e, kept))
     (λ e h l. rw e)
     (λ e h l. rw e)
@@ -259,3 +260,8 @@ from-right ns names row above below =
     refl
     above
     below
+
+pub ruleset parts =
+    (fits, fit, fit-verdict, cause-optional, parts-request, parts-response, parts-end-request, parts-end-response, parts-end, parts-transmission-response, parts-ack)
+
+pub ruleset plans = (from-plan, fit-kind, kind-small, id-small)

@@ -5,12 +5,11 @@ use mathlib.Core.Bool.{Bool, true, false, ◌&&◌}
 use mathlib.Core.List.{List, [], ◌∷◌}
 use mathlib.Core.Option.{Option, none, some, some-injective, none-ne-some}
 use Prim.Native.Nat.{ℕ}
+use Rattle.std.specs.Prelude.{Option as Maybe, Some, None}
 use lib.Dec.{T}
 use Rattle.octets.proofs.Choice.{T_and, T-and-left, T-and-right, pick-cases}
 use Rattle.sheet.specs.declared.Sheet.{Sheet}
 use Rattle.kinds.specs.declared.Numbers.{Numbers}
-use Rattle.packet.specs.declared.Indicator.{Indicator}
-use Rattle.packet.specs.declared.Indicator.TheVariants.{Absent, Given}
 use Rattle.packet.specs.declared.Verdict.TheVariants.{Granted, Rejected}
 use Rattle.packet.specs.declared.Message.{Message}
 use Rattle.packet.specs.declared.Message.TheVariants.{ReceiveRequest, ReceiveResponse, EndRequest, EndResponse, TransmissionEnd, TransmissionEndResponse, Ack}
@@ -74,10 +73,10 @@ packet-taken s names message p {m} {k} is found e =
     (T-and-left a b t, each-taken grant k.rows m.values (T-and-right a b t))
 
 -- an Indicator that is taken goes into its octets
-indicator-within : (names : List ℕ) (grant : Bool) (i : Indicator) → T (takes grant indicator (value_in names (indicator_said i))) → T (indicator_within i)
+indicator-within : (names : List ℕ) (grant : Bool) (i : Maybe ℕ) → T (takes grant indicator (value_in names (indicator_said i))) → T (indicator_within i)
 unfolding takes is_nothing value_in may_have holds
-indicator-within names grant Absent t = tt
-indicator-within names grant (Given n) t = t
+indicator-within names grant None t = tt
+indicator-within names grant (Some n) t = t
 
 -- each number of a message that has a packet goes into its octets
 pub packet-within : (s : Sheet) (m : Message) (names p : List ℕ) → packet_for s (meaning names (message_said m)) ≡ some p → T (in_width m)

@@ -1,12 +1,14 @@
 -- Laws of a plan's fields: the octets of each, part by part, and how many they take. Assumes nothing.
 use mathlib.Core.Path.{◌≡◌, refl}
-use mathlib.Core.Bool.{◌&&◌}
-use mathlib.Core.List.{List, ◌∷◌, append-nil}
-use Prim.Native.Nat.{ℕ, ◌+◌, ◌-◌, ◌*◌, ◌/◌, ◌%◌, ◌≤◌, ◌<◌}
+use mathlib.Core.List.{List, [], ◌∷◌, append-nil}
+use Prim.Native.Nat.{ℕ, ◌+◌, ◌*◌, ◌/◌, ◌%◌, ◌≤◌, ◌<◌}
 use native.Mathlib.Omega.{arith}
+use Rattle.std.specs.Prelude.{sum_by}
+use Rattle.std.proofs.lemmas.List.Sums.{sum_by-cons}
 use lib.ListN.{length, drop, length-append, length-drop}
 use lib.Seq.{length-take-le}
 use lib.Dec.{T, leb, leb→le}
+use Rattle.octets.specs.Choice.{every}
 use Rattle.octets.specs.Big.{big_of}
 use Rattle.octets.specs.Buffer.{padded}
 use Rattle.octets.proofs.Choice.{T-and-left, T-and-right}
@@ -22,7 +24,7 @@ use Rattle.packet.specs.Claims.{name_right}
 use Rattle.plan.specs.declared.Part.{Part}
 use Rattle.plan.specs.declared.Part.TheVariants.{Absent, Word, Named}
 use Rattle.plan.specs.declared.Plan.{Plan}
-use Rattle.plan.specs.Plan.{name_at, part_octets, part_right, part_size, plan_octets, plan_right, plan_size}
+use Rattle.plan.specs.Plan.{name_at, part_octets, parts_octets, part_right, part_size, plan_octets, plan_right, plan_size}
 
 -- ---- layouts
 
@@ -70,34 +72,30 @@ part-most names Absent t = omega arith
 part-most names (Word w) t = omega arith
 part-most names (Named n) t = omega (arith, name-short names n t)
 
--- ---- how many octets a plan's fields take
+-- ---- how many octets fields take
 
-module _ (names : List ℕ) (plan : Plan) (t : T (plan_right names plan)) where
-  -- each part is right
-  pub parts-right : T (part_right names plan.first) × T (part_right names plan.second) × T (part_right names plan.third)
-  parts-right =
-      let a = part_right names plan.first in
-      let b = part_right names plan.second in
-      let c = part_right names plan.third in
-      let u = T-and-right a (b && c) t in
-      (T-and-left a (b && c) t, T-and-left b c u, T-and-right b c u)
+module _ (names : List ℕ) where
+  -- as many as they say
+  pub parts-length : (ps : List Part) → T (every (part_right names) ps) → length (parts_octets names ps) ≡ sum_by part_size ps
+  parts-length [] t = refl
+  parts-length (p ∷ ps) t =
+      let a = part_right names p in
+      let b = every (part_right names) ps in
+      simp length-append (rw (part_length names p (T-and-left a b t), parts-length ps (T-and-right a b t), sum_by-cons part_size p ps))
 
-  -- so each takes as many octets as it says
-  pub parts-length :
-      (length (part_octets names plan.first) ≡ part_size plan.first)
-      × (length (part_octets names plan.second) ≡ part_size plan.second)
-      × (length (part_octets names plan.third) ≡ part_size plan.third)
-  parts-length = (
-    part_length names plan.first parts-right.0,
-    part_length names plan.second parts-right.1,
-    part_length names plan.third parts-right.2,
-  )
+  -- at most 64 each
+  parts-most : (ps : List Part) → T (every (part_right names) ps) → sum_by part_size ps ≤ 64 * length ps
+  parts-most [] t = omega arith
+  parts-most (p ∷ ps) t =
+      let a = part_right names p in
+      let b = every (part_right names) ps in
+      let one = part-most names p (T-and-left a b t) in
+      let rest = parts-most ps (T-and-right a b t) in
+      omega (arith, sum_by-cons part_size p ps)
 
-  -- and all take as many as the plan says
-  pub plan-length : length (plan_octets names plan) ≡ plan_size plan
-  plan-length = simp length-append (omega (arith, parts-length))
+  -- so do a plan's
+  pub plan-length : (plan : Plan) → T (plan_right names plan) → length (plan_octets names plan) ≡ plan_size plan
+  plan-length plan t = parts-length plan.parts t
 
-  -- at most 192
-  pub plan-most : plan_size plan ≤ 192
-  plan-most =
-      omega (arith, part-most names plan.first parts-right.0, part-most names plan.second parts-right.1, part-most names plan.third parts-right.2)
+  pub plan-most : (plan : Plan) → T (plan_right names plan) → plan_size plan ≤ 64 * length plan.parts
+  plan-most plan t = parts-most plan.parts t

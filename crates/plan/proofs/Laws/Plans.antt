@@ -2,15 +2,17 @@
 -- the part is right, and its field is then the part's. Assumes nothing.
 use mathlib.Core.Path.{◌≡◌, refl, ap, ◌∙◌}
 use mathlib.Core.Logic.{⊎_elim}
-use mathlib.Core.Bool.{Bool, true, false, ◌&&◌, and-true}
-use mathlib.Core.List.{List, [], ◌∷◌, ◌++◌, append-nil, append_assoc}
+use mathlib.Core.Bool.{Bool, true, false, ◌&&◌}
+use mathlib.Core.List.{List, [], ◌∷◌, ◌++◌, append-nil}
 use mathlib.Core.Option.{none, some}
+use Rattle.std.specs.Prelude.{Option, Some, None}
 use Prim.Native.Nat.{ℕ, ◌+◌, ◌*◌, ◌/◌, ◌%◌, ◌<◌}
 use native.Mathlib.Omega.{arith}
 use lib.ListN.{length}
 use lib.Dec.{T, leb, ltb→lt, lit<}
 use Rattle.octets.specs.Choice.{pick, every}
 use Rattle.octets.specs.Big.{big_at, big_of}
+use Rattle.octets.specs.Buffer.{padded}
 use Rattle.octets.proofs.Big.{big_of-two}
 use Rattle.octets.proofs.Choice.{T_true, decide, T-and-left, T-and-right}
 use Rattle.sheet.specs.declared.Sheet.{Sheet}
@@ -18,8 +20,6 @@ use Rattle.fields.specs.Layout.{laid_all}
 use Rattle.fields.proofs.Laws.Layouts.{laid_all-append}
 use Rattle.packet.specs.declared.Head.{Head}
 use Rattle.packet.specs.declared.Name.{Name}
-use Rattle.packet.specs.declared.Indicator.{Indicator}
-use Rattle.packet.specs.declared.Indicator.TheVariants.{Absent, Given}
 use Rattle.packet.specs.declared.Verdict.TheVariants.{Granted, Rejected}
 use Rattle.packet.specs.declared.Message.{Message}
 use Rattle.packet.specs.declared.Message.TheVariants.{ReceiveRequest, ReceiveResponse, EndRequest, EndResponse, TransmissionEnd, TransmissionEndResponse, Ack}
@@ -27,11 +27,11 @@ use Rattle.packet.specs.Claims.{name_right}
 use Rattle.kinds.specs.Kind.{Row, Kind, user, indicator, kinds, may_lack, may_have, is_result, grants, numbers_of}
 use Rattle.packet.specs.Message.{name_said, indicator_said, message_said}
 use Rattle.plan.specs.declared.Part.{Part}
-use Rattle.plan.specs.declared.Part.TheVariants.{Absent as NoPart, Named}
+use Rattle.plan.specs.declared.Part.TheVariants.{Absent, Named}
 use Rattle.packet.specs.Meaning.{Value, nothing, numeral, value_in, meaning}
 use Rattle.plan.specs.Packet.{within, holds, is_nothing, takes, takes_all, is_one, writable, octets_for, contents_for, packet_as, kind_with, packet_of, packet_for, fits}
-use Rattle.plan.specs.Plan.{part_said, plan_said, field_for, plan_as, plan_by, part_octets, part_right, plan_packet}
-use Rattle.plan.specs.Inner.{number_part, indicator_part, fields_with, plan_with, plan_for, indicator_within, in_width, planned}
+use Rattle.plan.specs.Plan.{part_said, plan_said, field_for, plan_as, plan_by, part_octets, parts_octets, part_right, plan_packet}
+use Rattle.plan.specs.Inner.{number_part, indicator_part, plan_with, plan_for, indicator_within, in_width, planned}
 use Rattle.plan.proofs.Laws.Fitting.{small}
 use Rattle.plan.proofs.Laws.Parts.{laid-number}
 
@@ -67,7 +67,7 @@ record Makes (names : List ℕ) (grant : Bool) (r : Row) (v : Value) (part : Par
 
 module _ {names : List ℕ} {grant : Bool} where
   -- a field that may be absent
-  absent-makes : {r : Row} → T (may_lack grant r.need) → Makes names grant r nothing NoPart
+  absent-makes : {r : Row} → T (may_lack grant r.need) → Makes names grant r nothing Absent
   unfolding takes is_nothing contents_for laid_all
   absent-makes {r} t = record { taken = T_true (may_lack grant r.need) t; field = λ _. refl }
 
@@ -82,10 +82,10 @@ module _ {names : List ℕ} {grant : Bool} where
       }
 
   -- an Indicator
-  indicator-makes : (i : Indicator) → T (indicator_within i) → Makes names grant indicator (value_in names (indicator_said i)) (indicator_part i)
+  indicator-makes : (i : Option ℕ) → T (indicator_within i) → Makes names grant indicator (value_in names (indicator_said i)) (indicator_part i)
   unfolding value_in may_lack may_have holds octets_for
-  indicator-makes Absent t = absent-makes tt
-  indicator-makes (Given n) t = number-makes t refl (lit< tt) (ltb→lt n 65536 t)
+  indicator-makes None t = absent-makes tt
+  indicator-makes (Some n) t = number-makes t refl (lit< tt) (ltb→lt n 65536 t)
 
   -- a name, which lies in the octets or does not
   name-makes : (n : Name) → Makes names grant user (value_in names (name_said n)) (Named n)
@@ -99,11 +99,6 @@ module _ {names : List ℕ} {grant : Bool} where
 
 -- ---- rows, their values and their parts
 
--- the octets of some parts
-abbrev parts_octets : List ℕ → List Part → List ℕ
-parts_octets names [] = []
-parts_octets names (part ∷ parts) = part_octets names part ++ parts_octets names parts
-
 -- the rows take the values exactly if the parts are right, and the fields laid out are then the parts'
 record Made (names : List ℕ) (grant : Bool) (rows : List Row) (values : List Value) (parts : List Part) : Type 0 where
   taken : takes_all grant rows values ≡ every (part_right names) parts
@@ -116,7 +111,7 @@ module _ {names : List ℕ} {grant : Bool} where
   no_rows = record { taken = refl; fields = λ _. refl }
 
   -- a part past the last row
-  past-rows : {parts : List Part} → Made names grant [] [] parts → Made names grant [] [] (NoPart ∷ parts)
+  past-rows : {parts : List Part} → Made names grant [] [] parts → Made names grant [] [] (Absent ∷ parts)
   past-rows m = record { taken = m.taken; fields = m.fields }
 
   -- a row, and the others
@@ -135,17 +130,14 @@ module _ {names : List ℕ} {grant : Bool} where
 -- ---- the packet
 
 -- a plan whose parts are made from the rows of a kind is the packet of that kind
-planned-as : (s : Sheet) (kind letters : ℕ) (h : Head) {names : List ℕ} {k : Kind} {values : List Value} {first second third : Part}
+planned-as : (s : Sheet) (kind letters : ℕ) (h : Head) {names : List ℕ} {k : Kind} {values : List Value} {parts : List Part}
     → kind_with kind (kinds (numbers_of s)) ≡ some k → big_of 4 letters ≡ k.letters → T (within 4 h.ssrc)
-    → Made names (grants is_one k.rows values) k.rows values (first ∷ second ∷ third ∷ [])
-    → planned names (plan_with h letters k.number (fields_with first second third))
+    → Made names (grants is_one k.rows values) k.rows values parts
+    → planned names (plan_with h letters k.number parts)
     ≡ packet_for s (some (record { kind = kind; ssrc = h.ssrc; ack = h.ack; values = values }))
 unfolding planned plan_packet packet_for packet_of writable packet_as
-planned-as s kind letters h {names} {k} {values} {first} {second} {third} e l w m =
-    let right = and-true (part_right names third) in
-    rw (e, T_true (within 4 h.ssrc) w, m.taken, right, l)
-    (pick_under (part_right names first && (part_right names second && part_right names third)) none
-    (λ t. rw (m.fields (rw right t), append-nil, append_assoc)))
+planned-as s kind letters h {names} {k} {values} {parts} e l w m =
+    rw (e, T_true (within 4 h.ssrc) w, m.taken, l) (pick_under (every (part_right names) parts) none (λ t. rw (m.fields t)))
 
 -- the Result's ID goes into an octet
 narrow-id : (s : Sheet) → T (fits (numbers_of s)) → s.resultid < 256
@@ -190,13 +182,13 @@ planned-is s v (Ack h source about) names w =
 -- ---- what the plan says
 
 -- an Indicator's field is its row's
-indicator-said : (i : Indicator) → part_said (indicator_part i) ≡ field_for indicator (indicator_said i)
-indicator-said Absent = refl
-indicator-said (Given n) = refl
+indicator-said : (i : Option ℕ) → part_said (indicator_part i) ≡ field_for indicator (indicator_said i)
+indicator-said None = refl
+indicator-said (Some n) = refl
 
 -- the plan of a message says what the table does
 pub plan-said : (s : Sheet) (m : Message) → plan_said (plan_for s m) ≡ plan_by s (message_said m)
-unfolding plan_by plan_as kind_with kinds numbers_of big_at
+unfolding plan_by plan_as kind_with kinds numbers_of big_at padded
 plan-said s (ReceiveRequest h user source i) = rw (indicator-said i)
 plan-said s (ReceiveResponse h Granted i) = rw (indicator-said i)
 plan-said s (ReceiveResponse h (Rejected cause) i) = rw (indicator-said i)

@@ -1,21 +1,26 @@
 -- Which rows are some message's, and which numbers fit one. Assumes nothing.
 use mathlib.Core.Path.{◌≡◌, refl, sym, ap, subst, ◌∙◌}
-use Prim.Native.Nat.{ℕ, zero, suc, ◌+◌, ◌<◌}
-use mathlib.Core.Bool.{Bool, true, false, ◌&&◌, and-true, and-false}
+use Prim.Native.Nat.{ℕ, zero, suc, ◌+◌, ◌<◌, ◌≤◌}
+use mathlib.Core.Bool.{Bool, true, false, ◌&&◌, and-true, and-false, and_assoc}
 use mathlib.Core.List.{List, [], ◌∷◌, map}
 use native.Mathlib.Numerals.{add-one}
 use native.Mathlib.Omega.{arith}
-use lib.ListN.{length, get_or, set, drop, length-set}
+use lib.ListN.{length, get_or, set, drop, drop_of_length-le, length-set}
 use lib.Seq.{set-get_or, drop-cons}
 use lib.Dec.{T, eqb, leb, ltb, ltb→lt, eqb→eq, eqb_refl}
 use borrow.Author.Tests.{le-ltb, lt-leb, ne_eqb}
 use Rattle.octets.specs.Choice.{pick, every}
-use Rattle.octets.proofs.Choice.{T_true, T_false, pick-cases, same-eq, NoneFrom, none_from}
+use Rattle.octets.proofs.Choice.{T_true, T_false, pick-cases, same-eq, NoneFrom}
 use Rattle.octets.proofs.Lists.{listed-drop}
+use Rattle.octets.proofs.Places.{eqb_comm}
 use Rattle.kinds.specs.Judge.{Held, absent, given, named}
 use Rattle.packet.specs.Row.{no_number, flag, columns, held_in, with_held, with_all, message_row, numbers_say, message_in}
 use Rattle.plan.specs.declared.standing.Span.{Span}
-use Rattle.plan.specs.Inner.{span, span_for, stands_at, is_message_row, number_from, indicator_fits, cause_fits, fits_at, numbers_fit}
+use Rattle.std.specs.Prelude.{Option, Some, None}
+use Rattle.kinds.specs.declared.kind.Kind.{Kind}
+use Rattle.kinds.specs.declared.kind.Kind.TheVariants.{ReceiveRequest, ReceiveResponse, EndRequest, EndResponse, TransmissionEnd, TransmissionEndResponse, Ack}
+use Rattle.kinds.specs.Found.{kind_number}
+use Rattle.plan.specs.Inner.{kind_with_number, span_for, stands_at, is_message_row, number_from, indicator_fits, cause_fits, fits_at, numbers_fit}
 
 -- ---- by kind
 
@@ -80,18 +85,34 @@ row-stands row e =
     subst (λ (l : List ℕ). is_message_row l ≡ stands_from (span_for (get_or l 0 0)) 2 (drop 2 l)) (listed-drop 12 0 row e)
     (twelve (at 0) (at 1) (at 2) (at 3) (at 4) (at 5) (at 6) (at 7) (at 8) (at 9) (at 10) (at 11))
 
--- no other kind has a field
-pub span_rest : (kind : ℕ) → NoneFrom 1 5 kind → (kind ≡ 7 → ⊥) → span_for kind ≡ span 7 12 12
-unfolding span_for
-span_rest =
-    by_kind (λ (kind : ℕ). NoneFrom 1 5 kind → (kind ≡ 7 → ⊥) → span_for kind ≡ span 7 12 12) (λ t n. refl) (λ t n. absurd (t.0.0.0.0.1 refl))
-    (λ t n. absurd (t.0.0.0.1 refl))
-    (λ t n. absurd (t.0.0.1 refl))
-    (λ t n. absurd (t.0.1 refl))
-    (λ t n. absurd (t.1 refl))
-    (λ t n. refl)
-    (λ t n. absurd (n refl))
-    (λ k t n. refl)
+-- no other number is a kind's
+pub no_kind : (n : ℕ) → NoneFrom 1 7 n → kind_with_number n ≡ None
+unfolding kind_with_number
+no_kind =
+    by_kind (λ (n : ℕ). NoneFrom 1 7 n → kind_with_number n ≡ None) (λ t. refl) (λ t. absurd (t.0.0.0.0.0.0.1 refl)) (λ t. absurd (t.0.0.0.0.0.1 refl))
+    (λ t. absurd (t.0.0.0.0.1 refl))
+    (λ t. absurd (t.0.0.0.1 refl))
+    (λ t. absurd (t.0.0.1 refl))
+    (λ t. absurd (t.0.1 refl))
+    (λ t. absurd (t.1 refl))
+    (λ n t. refl)
+
+-- a number that is has it
+pub kind-told : (n : ℕ) (k : Kind) → kind_with_number n ≡ Some k → n ≡ kind_number k
+unfolding kind_with_number
+kind-told n k e =
+    by_kind (λ (n : ℕ). kind_with_number n ≡ Some k → n ≡ kind_number k) (λ q. absurd (cc)) (λ q. told ReceiveRequest k q) (λ q. told ReceiveResponse k q)
+    (λ q. told EndRequest k q)
+    (λ q. told EndResponse k q)
+    (λ q. told TransmissionEnd k q)
+    (λ q. told TransmissionEndResponse k q)
+    (λ q. told Ack k q)
+    (λ n q. absurd (cc))
+    n
+    e
+  where
+    told : (x y : Kind) → ◌≡◌ {A = Option Kind} (Some x) (Some y) → kind_number x ≡ kind_number y
+    told x y q = ap kind_number (cc)
 
 -- 0 or 1 is the number of a flag
 pub flag-right : (n : ℕ) → ltb n 2 ≡ eqb (flag (eqb n 1)) n
@@ -104,6 +125,9 @@ flag-right (suc (suc n)) =
 pub stands-next : (s : Span) (row : List ℕ) (i : ℕ) → i < length row
     → stands_from s i (drop i row) ≡ (stands_at s i (get_or row i 0) && stands_from s (i + 1) (drop (i + 1) row))
 stands-next s row i h = rw (add-one, drop-cons row i 0 h)
+
+pub stands-end : (s : Span) (row : List ℕ) (i : ℕ) → length row ≤ i → stands_from s i (drop i row) ≡ true
+stands-end s row i h = rw (drop_of_length-le row h)
 
 -- a row has twelve numbers
 length-held : (k : ℕ) (v : Held) (row : List ℕ) → length (with_held k v row) ≡ length row
@@ -184,10 +208,26 @@ module _ (row : List ℕ) where
   unfolding numbers_fit columns fits_at
   fits-ack e = rw (e, and-true)
 
-  pub fits-none : NoneFrom 1 7 (at 0) → numbers_fit row ≡ false
-  unfolding numbers_fit
-  fits-none t = by (at 0) t
-    where
-      by : (kind : ℕ) → NoneFrom 1 7 kind → (leb 1 kind && (leb kind 7 && every (fits_at row) (columns kind))) ≡ false
-      by zero u = refl
-      by (suc k) u = rw (lt-leb (suc k) 7 (none_from 1 7 (suc k) (omega arith) u)) (and-false (leb 1 (suc k)))
+-- a row whose first number is no kind's fits none
+pub no_kind-misfit : (row : List ℕ) → kind_with_number (get_or row 0 0) ≡ None → numbers_fit row ≡ false
+unfolding kind_with_number numbers_fit
+no_kind-misfit row e =
+    by_kind (λ (n : ℕ). kind_with_number n ≡ None → fitting n ≡ false) (λ q. refl) (λ q. absurd (cc)) (λ q. absurd (cc)) (λ q. absurd (cc)) (λ q. absurd (cc))
+    (λ q. absurd (cc))
+    (λ q. absurd (cc))
+    (λ q. absurd (cc))
+    (λ n q. more (suc (suc (suc (suc (suc (suc (suc (suc n)))))))) (omega arith))
+    (get_or row 0 0)
+    e
+  where
+    fitting : ℕ → Bool
+    fitting n = leb 1 n && (leb n 7 && every (fits_at row) (columns n))
+
+    more : (n : ℕ) → 7 < n → fitting n ≡ false
+    more n h = rw (lt-leb n 7 h) (and-false (leb 1 n))
+
+pub ruleset fits = (fits-request, fits-response, fits-end-request, fits-end-response, fits-end, fits-transmission-response, fits-ack, and_assoc)
+
+pub ruleset flags = (flag-right, eqb_comm)
+
+pub ruleset narrow = (narrow-lt)

@@ -1,19 +1,18 @@
--- `reception::work_out_lent` meets its contract: past the checks of the sheet and the stream (`attempt-past`) the event is tried. Assumes nothing.
-use mathlib.Core.Path.{sym, ap, ◌∙◌}
+-- `reception::work_out_lent` meets its contract: past the checks of the sheet and the stream (`attempt_under`) its tests are those of the
+-- definition, and the table's row (`changes_by_table`) is the attempt. Assumes nothing.
+use native.Mathlib.Omega.{arith}
+use Rattle.sheet.specs.Table.{most_seats}
 use Rattle.reception.specs.Steps.{work_of}
-use Rattle.reception.specs.Inner.{admitted_said}
-use Rattle.reception.proofs.Laws.Checks.{under-admits, attempt-past}
+use Rattle.streams.proofs.Laws.Rules.{changes_by_table}
+use Rattle.reception.proofs.Laws.Checks.{under-admits, attempt_under}
 use Rattle.reception.proofs.work_out_lent.Goals as goal
 
-pub attempt_on-requires : goal.attempt_on-requires
-attempt_on-requires c = (under-admits _ _ _ _ c.admit.ensures c.in-Under.is).few
-
-pub returns-in-Under : goal.returns-in-Under
+pub returns-then-not-is_legal : goal.returns-then-not-is_legal
 unfolding work_of
-returns-in-Under c rs =
-    let admits = under-admits _ _ _ _ c.admit.ensures c.in-Under.is in
-    rw (attempt-past _ _ _, sym c.admit.ensures ∙ ap admitted_said c.in-Under.is, admits.same, c.attempt_on.ensures)
+returns-then-not-is_legal c rs = rw (attempt_under _ _ c.args.event _ c.in_ok-rules.ensures) (grind arith)
 
-pub returns-in-Refused : goal.returns-in-Refused
-unfolding work_of
-returns-in-Refused c rs = rw (attempt-past _ _ _, sym c.admit.ensures ∙ ap admitted_said c.in-Refused.is)
+pub returns : goal.returns
+unfolding work_of most_seats
+returns c rs =
+    let few = (under-admits _ _ _ c.in_ok-rules.ensures).few in
+    rw (attempt_under _ _ c.args.event _ c.in_ok-rules.ensures) (grind (arith, few, changes_by_table, c.change_of-change.ensures))

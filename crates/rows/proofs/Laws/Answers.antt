@@ -9,17 +9,19 @@ use native.Mathlib.Omega.{arith}
 use borrow.Author.Tests.{lt-ltb}
 use lib.ListN.{length, get_or, drop}
 use lib.Dec.{T, ltb, ltb→lt}
+use Rattle.std.specs.Prelude.{Some, None}
 use Rattle.octets.specs.Choice.{pick, same, All, some_of}
-use Rattle.octets.proofs.Lists.{listed-drop}
 use Rattle.octets.proofs.Choice.{NoneFrom, T-or-left, same_refl, pick-cases}
 use Rattle.streams.specs.declared.Answer.{Answer}
 use Rattle.streams.specs.declared.Answer.TheVariants.{GrantedFirst, Granted, GrantedAgain, Rejected, Ended, EndedLast, Opened, EndRequested, Freed, FreedWithAck, ReleasedIdle, ReleasedWatched, ReleasedEnding, Discarded}
 use Rattle.streams.specs.Answer.{Sent, reply, done_by, message_of, timers_of}
 use Rattle.rows.specs.Rows.{timers_sum, reply_row, answer_row, answers_for, answer_in}
+use Rattle.rows.specs.Held.{given}
 use Rattle.rows.specs.Promises.{row_of≡}
 use Rattle.rows.specs.Claims.{Narrow}
 use Rattle.rows.specs.Inner.{likely_answers, likely_answer}
 use Rattle.rows.proofs.Laws.Whose.{all_get_or, all_weaker, get_or-rest, whose-none, whose-some}
+use Rattle.rows.proofs.Laws.Held.{given-none}
 
 -- the likely answer by the numbers
 abbrev pub likely_in : List ℕ → Answer
@@ -124,14 +126,18 @@ answer-length a = with-sent (message_of a)
     with-sent (some m) = refl
 
 -- so any other count of numbers is no answer's
-pub answer-miscounted : (row : List ℕ) → (length row ≡ 6 → ⊥) → answer_in row ≡ none
-answer-miscounted row n = answer-none row (λ e. n (ap length (sym e) ∙ answer-length (likely_in row)))
+pub answer_uncounted : (row : List ℕ) → (length row ≡ 6 → ⊥) → answer_in row ≡ none
+answer_uncounted row n = answer-none row (λ e. n (ap length (sym e) ∙ answer-length (likely_in row)))
 
--- six numbers are the row of them
-pub six : (row : List ℕ) (a b c d e f : ℕ) → length row ≡ 6
-    → get_or row 0 0 ≡ a → get_or row 1 0 ≡ b → get_or row 2 0 ≡ c → get_or row 3 0 ≡ d → get_or row 4 0 ≡ e → get_or row 5 0 ≡ f
-    → row ≡ a ∷ b ∷ c ∷ d ∷ e ∷ f ∷ []
-six row a b c d e f long p0 p1 p2 p3 p4 p5 = sym (listed-drop 6 0 row long) ∙ rw (p0, p1, p2, p3, p4, p5)
+-- by the likely answer: where its row is the numbers, there it is
+pub answer-found : (row own : List ℕ) (a : Answer) → a ≡ likely_in row → own ≡ answer_row a → row ≡ own → Some a ≡ given (answer_in row)
+answer-found row own a made is same =
+    let known = answer-known row (sym (ap answer_row made) ∙ sym is ∙ sym same) in
+    rw (known, made)
+
+-- and where it is not, there is none
+pub answer-other : (row own : List ℕ) (a : Answer) → a ≡ likely_in row → own ≡ answer_row a → (row ≡ own → ⊥) → None ≡ given (answer_in row)
+answer-other row own a made is other = given-none (answer-none row (λ same. other (sym same ∙ sym (ap answer_row made) ∙ sym is)))
 
 -- any other number than 1 to 7 is likely that of an event discarded
 pub likely_rest : (done kind cause stops starts : ℕ) → NoneFrom 1 7 done → likely_answer done kind cause stops starts ≡ Discarded

@@ -7,17 +7,17 @@ use Prim.Native.Nat.{ℕ, ◌<◌, ◌≤◌}
 use borrow.Author.Tests.{le-ltb, lt-ltb}
 use lib.ListN.{length, get_or, drop}
 use lib.Dec.{T, eqb}
+use Rattle.std.specs.Prelude.{Some, None}
 use Rattle.octets.specs.Choice.{same, All, some_of}
-use Rattle.octets.proofs.Lists.{listed-drop}
 use Rattle.octets.proofs.Choice.{NoneFrom, T-or-left, T-or-right, same_refl}
 use Rattle.streams.specs.declared.Event.{Event}
 use Rattle.streams.specs.declared.What.{What}
 use Rattle.streams.specs.declared.What.TheVariants.{Request, End, Open, T11, EndResponse, Release}
 use Rattle.rows.specs.Rows.{what_row, event_row, events_by, event_on, event_in}
-use Rattle.rows.specs.Held.{octets_at, event_held}
+use Rattle.rows.specs.Held.{given, octets_at, event_held}
 use Rattle.rows.specs.Inner.{likely_whats, likely_what}
 use Rattle.rows.proofs.Laws.Whose.{get_or-rest, whose-none, whose-some, whose-row}
-use Rattle.rows.proofs.Laws.Held.{held-nothing}
+use Rattle.rows.proofs.Laws.Held.{given-none, held-nothing}
 
 -- the likely event by the numbers
 abbrev pub likely_in : List ℕ → Event
@@ -102,11 +102,6 @@ pub event-row : (row : List ℕ) (e : Event) → event_in row ≡ some e → eve
 unfolding event_in
 event-row row e p = whose-row event_row row e (near row) p
 
--- two rows of four numbers that are the same are one
-pub four : (x y : List ℕ) → length x ≡ 4 → length y ≡ 4
-    → get_or x 0 0 ≡ get_or y 0 0 → get_or x 1 0 ≡ get_or y 1 0 → get_or x 2 0 ≡ get_or y 2 0 → get_or x 3 0 ≡ get_or y 3 0 → x ≡ y
-four x y long same p0 p1 p2 p3 = sym (listed-drop 4 0 x long) ∙ rw (p0, p1, p2, p3) (listed-drop 4 0 y same)
-
 -- any other number than 1 to 5 is likely that of a release
 pub likely_rest : (number by : ℕ) (ack : Bool) → NoneFrom 1 5 number → likely_what number by ack ≡ Release
 likely_rest number by ack t = get_or-rest Release (drop 1 (likely_whats by ack)) number t
@@ -135,3 +130,20 @@ sender_unheld row h = rw (le-ltb (get_or row 2 0) 256 h, and-false)
 pub event-held : (row : List ℕ) → get_or row 1 0 < 256 → get_or row 2 0 < 256 → event_held row ≡ event_in row
 unfolding event_held octets_at
 event-held row s b = rw (lt-ltb (get_or row 1 0) 256 s, lt-ltb (get_or row 2 0) 256 b)
+
+-- ---- by the likely event, made of them
+
+pub event-made : (row : List ℕ) (s b : ℕ) (w : What) → s ≡ get_or row 1 0 → b ≡ get_or row 2 0
+    → w ≡ likely_what (get_or row 0 0) b (eqb (get_or row 3 0) 1) → event_on s w ≡ likely_in row
+event-made row s b w e f g = rw (e, g, f)
+
+-- where its row is them, there it is
+pub event-found : (row own : List ℕ) (e : Event) → e ≡ likely_in row → get_or row 1 0 < 256 → get_or row 2 0 < 256
+    → own ≡ event_row e → row ≡ own → Some e ≡ given (event_held row)
+event-found row own e made s b is same =
+    let known = event-known row (sym (ap event_row made) ∙ sym is ∙ sym same) in
+    rw (event-held row s b, known, made)
+
+-- and where it is not, there is none
+pub event-other : (row own : List ℕ) (e : Event) → e ≡ likely_in row → own ≡ event_row e → (row ≡ own → ⊥) → None ≡ given (event_held row)
+event-other row own e made is other = given-none (event-unheld row (event-none row (λ same. other (sym same ∙ sym (ap event_row made) ∙ sym is))))

@@ -7,19 +7,25 @@ use mathlib.Core.Option.{Option, none, some, none-ne-some, some-injective}
 use Prim.Native.Nat.{ℕ, zero, suc, ◌+◌, ◌*◌, ◌≤◌, ◌<◌}
 use native.Mathlib.Nat.{mul-suc}
 use native.Mathlib.Omega.{arith}
-use lib.ListN.{length, get_or, set, drop, get_or-eq_default}
+use lib.ListN.{length, get_or, set, drop}
 use lib.Seq.{drop-cons}
-use lib.Dec.{leb, eqb, eqb→eq}
-use borrow.Author.Tests.{leb-true, le-leb, lt-leb, eq-eqb, ne_eqb}
+use lib.Dec.{leb, ltb, eqb, eqb→eq}
+use borrow.Author.Tests.{leb-true, le-leb, lt-leb, lt-ltb, eq-eqb, ne_eqb}
+use Rattle.std.specs.Prelude.{Result, Some, None}
+use Rattle.std.specs.Prelude.{Option as Given}
+use Rattle.std.specs.Result.{result_ok, result_unwrap_or}
 use Rattle.octets.proofs.Choice.{T_true, false-T, le-or-lt, below, pick-cases}
 use Rattle.octets.specs.Buffer.{put_at}
 use Rattle.octets.proofs.First.{first-all}
 use Rattle.streams.specs.declared.Phase.{Phase}
 use Rattle.streams.specs.declared.Phase.TheVariants.{Free, Idle, Watched, Ending}
 use Rattle.streams.specs.declared.Record.{Record}
-use Rattle.streams.specs.Record.{phase_number, free, own}
+use Rattle.streams.specs.Record.{phase_number, phase_of, free, own}
 use Rattle.rows.specs.Rows.{is_some, both, record_row, records_row, phase_in, record_of, record_in, records_from, records_in, record_by, records_by}
+use Rattle.rows.specs.Held.{given, recording_said}
+use Rattle.rows.specs.Inner.{record_held}
 use Rattle.rows.proofs.Laws.Put.{put_two}
+use Rattle.rows.proofs.Laws.Held.{given-none, held-nothing}
 
 -- ---- what there is
 
@@ -75,6 +81,14 @@ unfolding phase_in
 phase-number n p e =
     eqb→eq _ _ (first-all (λ q. eqb (phase_number q) n) p (λ q. Unit {0}) (Free ∷ Idle ∷ Watched ∷ Ending ∷ []) (tt, (tt, (tt, (tt, tt)))) e).1
 
+-- the code has the phase of a number
+pub phase-given : (n : ℕ) (r : Result Phase Unit) (o : Given Phase) → r ≡ phase_of n → o ≡ result_ok r → o ≡ given (phase_in n)
+phase-given zero r o e f = rw (f, e, phase_in_lem Free)
+phase-given (suc zero) r o e f = rw (f, e, phase_in_lem Idle)
+phase-given (suc (suc zero)) r o e f = rw (f, e, phase_in_lem Watched)
+phase-given (suc (suc (suc zero))) r o e f = rw (f, e, phase_in_lem Ending)
+phase-given (suc (suc (suc (suc n)))) r o e f = rw (f, e) (given-none (phase-above (suc (suc (suc (suc n)))) (omega arith)))
+
 -- ---- one record
 
 -- the record with a phase stands at the phase's number
@@ -101,10 +115,21 @@ record_known (suc (suc zero)) b h = record_in_lem 2 b Watched refl
 record_known (suc (suc (suc zero))) b h = record_in_lem 3 b Ending refl
 record_known (suc (suc (suc (suc n)))) b h = absurd (omega arith)
 
--- and any other number is taken for the last one's
-pub record_last : (n b : ℕ) → 3 ≤ n → record_of b Ending ≡ record_by n b
+-- which any other number is taken for: the last one
+pub record_last : (n b : ℕ) (r : Result Phase Unit) → r ≡ phase_of n → record_of b (result_unwrap_or r Ending) ≡ record_by n b
 unfolding record_by
-record_last n b h = rw (get_or-eq_default (Free ∷ Idle ∷ Watched ∷ []) Ending h)
+record_last zero b r e = rw e
+record_last (suc zero) b r e = rw e
+record_last (suc (suc zero)) b r e = rw e
+record_last (suc (suc (suc zero))) b r e = rw e
+record_last (suc (suc (suc (suc n)))) b r e = rw e
+
+-- of two numbers there is one where the first is a phase and the second fits an octet
+pub record-held : (n b k : ℕ) (p : Phase) → phase_in n ≡ some p → (b < 256) × (k ≡ b) → Some (record_of k p) ≡ given (record_held n b)
+record-held n b k p e fits = rw (lt-ltb b 256 fits.0, e, fits.1)
+
+pub record-unheld : (n b : ℕ) → phase_in n ≡ none → None ≡ given (record_held n b)
+record-unheld n b e = given-none (held-nothing (ltb b 256) (record_in n b) (rw e))
 
 record-by : (n b : ℕ) (x : Record) → record_in n b ≡ some x → record_by n b ≡ x
 record-by n b x e =
@@ -119,7 +144,7 @@ length-row [] = refl
 length-row (x ∷ rs) = rw (mul-suc 2 (length rs)) (omega (arith, length-row rs))
 
 -- one record more at the front
-from_cons : (p b : ℕ) (octets : List ℕ) → is_some (records_from (p ∷ b ∷ octets)) ≡ (is_some (phase_in p) && is_some (records_from octets))
+pub from_cons : (p b : ℕ) (octets : List ℕ) → is_some (records_from (p ∷ b ∷ octets)) ≡ (is_some (phase_in p) && is_some (records_from octets))
 unfolding records_from
 from_cons p b octets = rw (is-both _ (record_in p b) (records_from octets), is-record p b)
 
@@ -154,9 +179,9 @@ pub records-counted : (n : ℕ) (octets : List ℕ) → length octets ≡ 2 * n 
 unfolding records_in
 records-counted n octets e = rw (eq-eqb (length octets) (2 * n) e)
 
-pub records-other : (n : ℕ) (octets : List ℕ) → (length octets ≡ 2 * n → ⊥) → records_in n octets ≡ none
+pub records_other : (n : ℕ) (octets : List ℕ) → (length octets ≡ 2 * n → ⊥) → records_in n octets ≡ none
 unfolding records_in
-records-other n octets h = rw (ne_eqb (length octets) (2 * n) h)
+records_other n octets h = rw (ne_eqb (length octets) (2 * n) h)
 
 -- where there are any, there are so many
 count_of : (n : ℕ) (octets : List ℕ) → is_some (records_in n octets) ≡ true → length octets ≡ 2 * n
@@ -177,20 +202,17 @@ pub records-eight : (octets : List ℕ) (rs : List Record) → records_in 8 octe
     → (length octets ≡ 16) × (length rs ≡ 8) × (records_row rs ≡ octets)
 records-eight octets rs e = records-right 8 octets rs e
 
--- two octets are a record where the first is a phase
-pub one_record : (octets : List ℕ) → length octets ≡ 2 → get_or octets 0 0 ≤ 3
-    → records_in 1 octets ≡ some (record_by (get_or octets 0 0) (get_or octets 1 0) ∷ [])
+-- two octets are a record where the two numbers are
+said-both : (o : Option Record) → recording_said (given o) ≡ both (λ x xs. x ∷ xs) o (some [])
+said-both none = refl
+said-both (some x) = refl
+
+pub one_record : (octets : List ℕ) → length octets ≡ 2 → get_or octets 1 0 < 256
+    → recording_said (given (record_held (get_or octets 0 0) (get_or octets 1 0))) ≡ records_in 1 octets
 one_record [] l h = absurd (omega arith)
 one_record (p ∷ []) l h = absurd (omega arith)
-one_record (p ∷ b ∷ []) l h = records-counted 1 (p ∷ b ∷ []) refl ∙ (unfold records_from in rw (record_known p b h))
+one_record (p ∷ b ∷ []) l h = rw (lt-ltb b 256 h, records-counted 1 (p ∷ b ∷ []) refl) (unfold records_from in said-both (record_in p b))
 one_record (p ∷ b ∷ q ∷ octets) l h = absurd (omega arith)
-
--- and none where it is not
-pub no_record : (octets : List ℕ) → length octets ≡ 2 → is_some (phase_in (get_or octets 0 0)) ≡ false → records_in 1 octets ≡ none
-no_record [] l e = absurd (omega arith)
-no_record (p ∷ []) l e = absurd (omega arith)
-no_record (p ∷ b ∷ []) l e = records-counted 1 (p ∷ b ∷ []) refl ∙ is-none _ (from_cons p b [] ∙ rw e)
-no_record (p ∷ b ∷ q ∷ octets) l e = absurd (omega arith)
 
 -- ---- the record of a stream, for who has asked whether octets are records
 

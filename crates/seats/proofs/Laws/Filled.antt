@@ -1,36 +1,39 @@
 -- Laws on how many octets of a row are not zero: as many as its name has, exactly if zeros stand behind the name. Assumes nothing.
 use mathlib.Core.Path.{◌≡◌, refl, sym, ap, ◌∙◌}
-use mathlib.Core.Logic.{⊎_elim, ◌↔◌}
+use mathlib.Core.Logic.{⊎_elim}
 use mathlib.Core.Bool.{Bool, true, false, not, ◌&&◌}
 use mathlib.Core.List.{List, [], ◌∷◌}
 use Prim.Native.Nat.{ℕ, zero, suc, ◌+◌, ◌≤◌, ◌<◌, zero-le, suc-le-suc}
 use native.Mathlib.Numerals.{add-one}
 use native.Mathlib.Omega.{arith}
 use mir.Val.{bool_byte}
-use lib.ListN.{length, get_or, take, drop, get_or-eq_default}
-use lib.Seq.{drop-cons, length-take-le, get_or-take}
+use lib.ListN.{length, get_or, take, drop, length-append, get_or-eq_default}
+use lib.Seq.{take-suc, length-take-le, get_or-take}
 use lib.Dec.{T, leb, eqb, eqb→eq, eqb-suc-zero}
-use Rattle.octets.specs.Choice.{pick, same, every, keep, first_place}
+use Rattle.std.specs.List.{list_any}
+use Rattle.octets.specs.Choice.{pick, same, every, keep}
 use Rattle.octets.specs.Buffer.{zeros_from}
-use Rattle.octets.proofs.Choice.{true-T, T_true, T_false, false-T, decide, T_and, T-and-left, T-and-right, le-or-lt, test-eq, pick-cases, same-eq, eq-same, every-weaker, none-first-place}
+use Rattle.octets.proofs.Keep.{keep_append}
+use Rattle.octets.proofs.Choice.{true-T, T_true, T_false, false-T, decide, T_and, T-and-left, T-and-right, le-or-lt, test-eq, pick-cases, same-eq, eq-same, every-weaker}
 use Rattle.sheet.specs.Judge.{visible, longest_name, user_id}
 use Rattle.sheet.specs.Value.{row_of, name_of}
-use Rattle.sheet.specs.Find.{seat_of_user, is_none, new_name}
+use Rattle.sheet.specs.Find.{seat_of_user, new_name}
 use Rattle.sheet.specs.Inner.{nonzero, good_row}
-use Rattle.seats.specs.Inner.{filled, NewRow}
-use Rattle.sheet.proofs.Laws.Rows.{take-name_of, first-seat-none, new_name-bad, same-row_of, good_row-stained, good_row-unused, good_row-used}
+use Rattle.seats.specs.Inner.{filled}
+use Rattle.seats.proofs.Laws.Words.{none-any}
+use Rattle.sheet.proofs.Laws.Rows.{take-name_of, new_name-bad, same-row_of, good_row-stained, good_row-unused, good_row-used}
 use Rattle.sheet.proofs.Laws.Laid.{not-zero}
-use Rattle.sheet.proofs.Laws.Seats.{is-none}
 
 -- ---- counting
 
 -- one octet more
-pub filled-step : (row : List ℕ) (i : ℕ) → i < length row → filled (drop i row) ≡ bool_byte (nonzero (get_or row i 0)) + filled (drop (i + 1) row)
-filled-step row i h = rw (add-one, drop-cons row i 0 h) (by-test (nonzero (get_or row i 0)) (keep nonzero (drop (suc i) row)))
+pub filled_more : (row : List ℕ) (i : ℕ) → i < length row → filled (take (i + 1) row) ≡ filled (take i row) + bool_byte (nonzero (get_or row i 0))
+filled_more row i h =
+    rw (add-one, take-suc row i 0, keep_append, length-append) (ap (λ (n : ℕ). filled (take i row) + n) (by-test (nonzero (get_or row i 0))))
   where
-    by-test : (b : Bool) (xs : List ℕ) → length (pick b (get_or row i 0 ∷ xs) xs) ≡ bool_byte b + length xs
-    by-test true xs = omega arith
-    by-test false xs = omega arith
+    by-test : (b : Bool) → length (pick b (get_or row i 0 ∷ []) []) ≡ bool_byte b
+    by-test true = refl
+    by-test false = refl
 
 -- at most all
 pub filled-le : (row : List ℕ) → filled row ≤ length row
@@ -141,15 +144,15 @@ module _ (seats : ℕ) (users : List (List ℕ)) (s : ℕ) (l : length (get_or u
         (λ t. eq-same (name_of other) (name_of row) (ap name_of (same-eq other row t)))
 
     -- behind good rows it is good exactly if none of them is the same
-    pub used-new : ((i : ℕ) → i < s → T (good_row seats users i)) → (r : Bool) → T r ↔ NewRow users s → r ≡ good_row seats users s
+    pub used-new : ((i : ℕ) → i < s → T (good_row seats users i)) → (taken : Bool) → taken ≡ list_any (λ other. same other row) (take s users)
+        → not taken ≡ good_row seats users s
     unfolding new_name seat_of_user
-    used-new good r new =
-        let name = name_of row in
-        let test : List ℕ → Bool = λ other. same (name_of other) name in
-        let named : user_id name ≡ true = rw (clean-filled used-clean, take-name_of row) at (T_true (user_id (take (filled row) row)) u) in
-        test-eq r (is_none (first_place test (take s users)))
-        (λ t. rw (first-seat-none test users [] s s (λ k l. same_name k (good k l) ∙ new.0 t k l) (omega arith)) tt)
-        (λ t. new.1 (λ i l. sym (same_name i (good i l))
-        ∙ (ap test (sym (get_or-take s users i [] l))
-        ∙ none-first-place test (take s users) [] (is-none (first_place test (take s users)) t) i (omega (arith, length-take-le s users (omega (arith, inside)))))))
-        ∙ sym (good_row-used seats users s (T_true clean used-clean) h ∙ rw named)
+    used-new good taken e =
+        let test : List ℕ → Bool = λ other. same (name_of other) (name_of row) in
+        let named : user_id (name_of row) ≡ true = rw (clean-filled used-clean, take-name_of row) at (T_true (user_id (take (filled row) row)) u) in
+        rw e
+        (sym (none-any test (λ other. same other row) (take s users) []
+        (λ i l.
+        let k : i < s = omega (arith, length-take-le s users (omega (arith, inside))) in
+        rw (get_or-take s users i [] k) (same_name i (good i k))))
+        ∙ sym (good_row-used seats users s (T_true clean used-clean) h ∙ rw named))

@@ -11,23 +11,23 @@ use Rattle.sheet.specs.Value.{sheet_by, sheet_from, sheet_in, valid_with, valid_
 use Rattle.sheet.proofs.Laws.Values.{rows-judged, not-alone, sheet_in-counted, valid-counted}
 use Rattle.seats.proofs.are_valid_with.Goals as goal
 
-pub returns-then-not-are_valid : goal.returns-then-not-are_valid
-returns-then-not-are_valid c =
+pub returns-else-are_valid : goal.returns-else-are_valid
+returns-else-are_valid c =
     let a = c.args in
-    sym (not-alone (sheet_in a.numbers.now) a.users.now (sym c.are_valid.ensures ∙ c.if-not-are_valid.true))
+    c.if-are_valid.false ∙ sym (not-alone (sheet_in a.numbers.now) a.users.now (sym c.are_valid.ensures ∙ c.if-are_valid.false))
 
 -- the numbers are a sheet's, so there are nineteen
 pub bounds-numbers-10 : goal.bounds-numbers-10
 bounds-numbers-10 c =
-    let alone = true-T _ (sym c.are_valid.ensures ∙ c.if-not-are_valid.false) in
+    let alone = true-T _ (sym c.are_valid.ensures ∙ c.if-are_valid.true) in
     omega (arith, valid-counted _ alone)
 
-pub returns : goal.returns
+pub returns-then-are_valid : goal.returns-then-are_valid
 unfolding sheet_from sheet_by number_lines table most_seats
-returns c =
+returns-then-are_valid c =
     let a = c.args in
     let ns = a.numbers.now in
-    let alone : T (valid_alone (sheet_in ns)) = true-T _ (sym c.are_valid.ensures ∙ c.if-not-are_valid.false) in
+    let alone : T (valid_alone (sheet_in ns)) = true-T _ (sym c.are_valid.ensures ∙ c.if-are_valid.true) in
     let long : length ns ≡ 19 = valid-counted _ alone in
     let own : sheet_in ns ≡ sheet_from ns = sheet_in-counted ns long in
     let eight : length (sheet_from ns).ssrcs ≡ 8 = length-padded 8 0 _ (rw length-drop (omega (arith, long))) in

@@ -7,16 +7,16 @@ use Rattle.sheet.specs.Table.{most_seats}
 use Rattle.sheet.proofs.Laws.Values.{rows-judged, not-alone}
 use Rattle.seats.proofs.valid_with.Goals as goal
 
-pub returns-then-not-valid : goal.returns-then-not-valid
-returns-then-not-valid c =
+pub returns-else-valid : goal.returns-else-valid
+returns-else-valid c =
     let a = c.args in
-    sym (not-alone a.sheet a.users.now (sym c.valid.ensures ∙ c.if-not-valid.true))
+    c.if-valid.false ∙ sym (not-alone a.sheet a.users.now (sym c.valid.ensures ∙ c.if-valid.false))
 
-pub returns : goal.returns
+pub returns-then-valid : goal.returns-then-valid
 unfolding most_seats
-returns c =
+returns-then-valid c =
     let a = c.args in
     -- it has eight SSRCs
     let eight : length a.sheet.ssrcs ≡ most_seats = search rules in
-    let alone = true-T _ (sym c.valid.ensures ∙ c.if-not-valid.false) in
+    let alone = true-T _ (sym c.valid.ensures ∙ c.if-valid.true) in
     rows-judged a.sheet a.users.now eight c.are_good_rows.ensures.0 alone _ c.are_good_rows.ensures.1

@@ -8,9 +8,10 @@ use lib.ListN.{length, get_or, take, drop, replicate, take-append-drop, length-a
 use lib.Seq.{take_all, take-nil, length-take-le}
 use lib.Dec.{T, leb, eqb, leb→le}
 use borrow.Author.Tests.{ne_eqb}
+use Rattle.std.proofs.lemmas.List.{drop-map}
 use Rattle.octets.specs.Choice.{same, every, front}
 use Rattle.octets.specs.Buffer.{padded}
-use Rattle.octets.proofs.Lists.{listed-take, map-drop}
+use Rattle.octets.proofs.Lists.{listed-take}
 use Rattle.octets.proofs.Choice.{every-weaker, T_and, T-and-left, T-and-right, same_refl, same-eq, front-all, front-append}
 use Rattle.octets.proofs.Buffer.{take-padded}
 use Rattle.sheet.specs.declared.Sheet.{Sheet}
@@ -97,14 +98,14 @@ laid-ssrcs es t =
     let l : seats_in ns ≡ length (drop number_lines ns) = let e = valid-length es t in omega (arith, length-drop number_lines ns) in
     ap (λ (n : ℕ). take n (padded most_seats 0 (drop number_lines ns))) l
     ∙ take-padded most_seats 0 (drop number_lines ns)
-    ∙ map-drop (λ (e : Entry). e.number) number_lines es
+    ∙ drop-map (λ (e : Entry). e.number) number_lines es
 
 laid-users : (es : List Entry)
     → users_of es ≡ map row_of (names_in (drop number_lines es)) ++ replicate (most_seats - length (map row_of (drop number_lines (names_in es)))) (row_of [])
 unfolding users_of padded
 laid-users es =
     ap (λ (names : List (List ℕ)). map row_of names ++ replicate (most_seats - length (map row_of (drop number_lines (names_in es)))) (row_of []))
-    (map-drop (λ (e : Entry). e.name) number_lines es)
+    (drop-map (λ (e : Entry). e.name) number_lines es)
 
 -- the numbers of the seats, as far as there are rows
 pub numbers_in-seats : (xs : List ℕ) (us : List (List ℕ)) → numbers_in (seat_entries xs us) ≡ take (length us) xs

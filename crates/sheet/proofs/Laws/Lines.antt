@@ -1,26 +1,25 @@
 -- Laws of the numbers that a call is lent, judged in turn: each line within its bounds, and apart from those of its family before it.
 -- Assumes nothing.
-use mathlib.Core.Path.{◌≡◌, sym, ap, ◌∙◌}
+use mathlib.Core.Path.{◌≡◌, ap, ◌∙◌}
 use mathlib.Core.Logic.{◌⊎◌, inl, inr, ⊎_elim}
-use mathlib.Core.Bool.{Bool, ◌&&◌}
+use mathlib.Core.Bool.{Bool, ◌&&◌, ◌||◌}
 use mathlib.Core.List.{List, []}
-use Prim.Native.Nat.{ℕ, ◌+◌, ◌≤◌, ◌<◌, zero-le}
+use Prim.Native.Nat.{ℕ, ◌+◌, ◌-◌, ◌≤◌, ◌<◌, zero-le}
 use native.Mathlib.Omega.{arith}
 use lib.ListN.{length, get_or, take, length-take}
 use lib.Seq.{length-take-le, take-take, get_or-take}
 use lib.Dec.{T, leb, ltb, eqb, eqb→eq, le→leb, leb→le, lit<}
-use borrow.Author.Tests.{le-leb, lt-leb, le-ltb, lt-ltb}
-use Rattle.octets.specs.Choice.{pick}
+use borrow.Author.Tests.{le-leb, lt-leb, le-ltb}
 use Rattle.octets.specs.Buffer.{zeros_from}
 use Rattle.octets.proofs.Choice.{T_and, T-and-left, T-and-right, le-or-lt, all_below, below}
 use Rattle.octets.proofs.Buffer.{zeros_from-get_or, get_or-zeros_from}
-use Rattle.sheet.specs.Table.{Row, table, seat_row, number_lines, seats_line, most_seats, row_at}
+use Rattle.sheet.specs.Table.{table, seat_row, number_lines, seats_line, most_seats, row_at}
 use Rattle.sheet.specs.Judge.{good_number, in_turn}
 use Rattle.sheet.specs.Value.{sheet_from, sheet_in, valid_alone}
 use Rattle.sheet.specs.Inner.{NoneBefore, within, apart, cap}
 use Rattle.sheet.proofs.Laws.Rules.{row_at-seat, other, none_before}
 use Rattle.sheet.proofs.Laws.Entries.{in_turn-at, at-in_turn}
-use Rattle.sheet.proofs.Laws.Numbers.{taken-from, taken-end, good_number-by}
+use Rattle.sheet.proofs.Laws.Numbers.{taken_any, good_number-by}
 use Rattle.sheet.proofs.Laws.Values.{lines_good, sheet_in-counted, numbers-sheet_from, numbers-few, numbers-judged}
 
 -- ---- which lines have one of their family before them
@@ -32,19 +31,13 @@ five = 4
 abbrev pub behind_five : ℕ
 behind_five = 9
 
--- one of the five, of one family, or the first line of its own
+-- one of the five, or the first line of its own family
 placed : ℕ → Bool
-placed k = pick (leb five k && ltb k behind_five) (eqb (row_at k).family (row_at five).family) (all_below k (other (row_at k).family))
+placed k = (leb five k && ltb k behind_five) || all_below k (other (row_at k).family)
 
 placed_at : (k : ℕ) → k < number_lines → T (placed k)
 unfolding placed other row_at number_lines table
 placed_at k h = below number_lines placed tt k h
-
--- the five are one family
-five-family : (k : ℕ) → k < behind_five → five ≤ k → (row_at k).family ≡ (row_at five).family
-unfolding placed number_lines table
-five-family k h l =
-    eqb→eq (row_at k).family (row_at five).family (rw (le-leb five k l, lt-ltb k behind_five h) at (placed_at k (omega arith)))
 
 -- a line before or behind them is the first of its own
 lone-family : (k : ℕ) → k < number_lines → (k < five) ⊎ (behind_five ≤ k) → NoneBefore k (row_at k).family
@@ -54,10 +47,6 @@ lone-family k h w =
     none_before k (row_at k).family
     (⊎_elim (λ l. rw (lt-leb five k l) at p) (λ l. let m : five ≤ k = omega arith in rw (le-leb five k m, le-ltb k behind_five l) at p) w)
 
--- the seats are one family
-seat-family : (k : ℕ) → number_lines ≤ k → (row_at k).family ≡ (row_at number_lines).family
-seat-family k h = ap (λ (r : Row). r.family) (row_at-seat k h ∙ sym (row_at-seat number_lines (omega arith)))
-
 -- ---- one line
 
 module _ (family lines : ℕ) (ns : List ℕ) (k : ℕ) where
@@ -66,7 +55,8 @@ module _ (family lines : ℕ) (ns : List ℕ) (k : ℕ) where
   unfolding apart
   apart-lone h none =
       let n = get_or ns k 0 in
-      rw (lt-leb lines k h, taken-from family n (take k ns) k none, taken-end family n (take k ns) k (rw length-take (omega arith))) tt
+      let none-left : length (take k ns) - k ≡ 0 = rw length-take (omega arith) in
+      rw (lt-leb lines k h, taken_any family n (take k ns) k none, none-left) tt
 
   -- behind the sheet's lines
   apart-unused : lines ≤ k → apart family lines ns k ≡ eqb (get_or ns k 0) 0
@@ -86,8 +76,8 @@ good_number-apart lines ns k h l =
 -- each line with a number alone is within its bounds; the five are apart, and so are the seats' SSRCs, with zeros behind them
 pub record Right (ns : List ℕ) (lines : ℕ) : Type 0 where
   pub bounds : (k : ℕ) → k < number_lines → T (within k (get_or ns k 0))
-  pub apart-five : (k : ℕ) → k < behind_five → five ≤ k → T (apart (row_at five).family lines ns k)
-  pub apart-seats : (k : ℕ) → k < length ns → number_lines ≤ k → T (apart (row_at number_lines).family lines ns k)
+  pub apart-five : (k : ℕ) → k < behind_five → five ≤ k → T (apart (row_at k).family lines ns k)
+  pub apart-seats : (k : ℕ) → k < length ns → number_lines ≤ k → T (apart (row_at k).family lines ns k)
 
 module _ (ns : List ℕ) (lines : ℕ) (all : number_lines ≤ lines) (on : lines ≤ length ns) where
   module _ (t : T (lines_good ns lines)) where
@@ -111,8 +101,8 @@ module _ (ns : List ℕ) (lines : ℕ) (all : number_lines ≤ lines) (on : line
     good_right =
         record {
           bounds = λ k h. T-and-left (within k (get_or ns k 0)) _ (line-right k (omega arith));
-          apart-five = λ k h l. rw (← five-family k h l) (line-apart k);
-          apart-seats = λ k h l. rw (seat-family k l) at (line-apart k);
+          apart-five = λ k h l. line-apart k;
+          apart-seats = λ k h l. line-apart k;
         }
 
   module _ (small : (k : ℕ) → get_or ns k 0 < cap) (r : Right ns lines) where
@@ -130,9 +120,9 @@ module _ (ns : List ℕ) (lines : ℕ) (all : number_lines ≤ lines) (on : line
     right-apart : (k : ℕ) → k < lines → T (apart (row_at k).family lines ns k)
     right-apart k h =
         ⊎_elim
-        (λ l. rw (seat-family k l) (r.apart-seats k (omega arith) l))
+        (λ l. r.apart-seats k (omega arith) l)
         (λ l. ⊎_elim
-        (λ m. ⊎_elim (λ n. lone l (inr n)) (λ n. rw (five-family k n m) (r.apart-five k n m)) (le-or-lt behind_five k))
+        (λ m. ⊎_elim (λ n. lone l (inr n)) (λ n. r.apart-five k n m) (le-or-lt behind_five k))
         (λ m. lone l (inl m))
         (le-or-lt five k))
         (le-or-lt number_lines k)
@@ -150,7 +140,7 @@ module _ (ns : List ℕ) (lines : ℕ) (all : number_lines ≤ lines) (on : line
         rw (take-take k lines ns (omega arith), get_or-take lines ns k 0 l, good_number-apart lines ns k l (omega arith))
         (T_and (within k (get_or ns k 0)) _ (right-within k) (right-apart k l))))
         (get_or-zeros_from ns lines
-        (λ i l h. eqb→eq (get_or ns i 0) 0 (rw (apart-unused (row_at number_lines).family lines ns i l) at (r.apart-seats i h (omega arith)))))
+        (λ i l h. eqb→eq (get_or ns i 0) 0 (rw (apart-unused (row_at i).family lines ns i l) at (r.apart-seats i h (omega arith)))))
 
 -- ---- the struct with these numbers is a sheet's exactly if its lines are right
 

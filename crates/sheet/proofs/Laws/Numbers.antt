@@ -2,54 +2,63 @@
 -- Assumes nothing.
 use mathlib.Core.Path.{◌≡◌, refl, sym, ◌∙◌}
 use mathlib.Core.Logic.{⊎_elim}
-use mathlib.Core.Bool.{true, false, not, ◌&&◌, and_assoc, and-false}
+use mathlib.Core.Bool.{Bool, false, not, ◌&&◌, ◌||◌, and_assoc, and_comm, and-false}
 use mathlib.Core.List.{List}
-use Prim.Native.Nat.{ℕ, zero, suc, ◌+◌, ◌≤◌, ◌<◌}
+use Prim.Native.Nat.{ℕ, zero, suc, ◌+◌, ◌-◌, ◌≤◌, ◌<◌}
 use native.Mathlib.Numerals.{add-one}
 use native.Mathlib.Omega.{arith}
 use lib.ListN.{length, get_or, drop, drop_of_length-le}
 use lib.Seq.{drop-cons}
-use lib.Dec.{leb, eqb, eqb→eq}
-use borrow.Author.Tests.{eq-eqb, eqb-false, lt-leb}
-use Rattle.octets.proofs.Choice.{le-or-lt, T_false, T-and-left, T-and-right}
+use lib.Dec.{leb, eqb}
+use borrow.Author.Tests.{lt-leb}
+use Rattle.std.specs.List.{list_any, range_with_len}
+use Rattle.octets.proofs.Choice.{le-or-lt}
 use Rattle.sheet.specs.Table.{Row, row_at}
 use Rattle.sheet.specs.Judge.{taken, good_number}
 use Rattle.sheet.specs.Inner.{NoneBefore, within}
 
 -- ---- the numbers of a family, line by line
 
-module _ (family n : ℕ) (ns : List ℕ) (j : ℕ) where
+module _ (family n : ℕ) (ns : List ℕ) where
   -- line j has it
-  pub taken_here : j < length ns → (row_at j).family ≡ family → get_or ns j 0 ≡ n → taken family n j (drop j ns) ≡ true
-  unfolding taken
-  taken_here l p q = rw (drop-cons ns j 0 l, eq-eqb (row_at j).family family p, eq-eqb (get_or ns j 0) n q)
+  abbrev pub has : ℕ → Bool
+  has j = eqb (get_or ns j 0) n && eqb (row_at j).family family
 
-  -- line j has it not
-  pub taken-skip : j < length ns → ((row_at j).family ≡ family → get_or ns j 0 ≡ n → ⊥)
-      → taken family n j (drop j ns) ≡ taken family n (j + 1) (drop (j + 1) ns)
+  -- line j and those behind it
+  taken-next : (j : ℕ) → j < length ns → taken family n j (drop j ns) ≡ (has j || taken family n (j + 1) (drop (j + 1) ns))
   unfolding taken
-  taken-skip l f =
-      let a = eqb (row_at j).family family in
-      let b = eqb (get_or ns j 0) n in
-      let none : (a && b) ≡ false = T_false (a && b) (λ t. f (eqb→eq (row_at j).family family (T-and-left a b t)) (eqb→eq (get_or ns j 0) n (T-and-right a b t))) in
-      rw (add-one, drop-cons ns j 0 l, none)
+  taken-next j l = rw (add-one, drop-cons ns j 0 l, and_comm (eqb (row_at j).family family) (eqb (get_or ns j 0) n))
 
   -- no line is left
-  pub taken-end : length ns ≤ j → taken family n j (drop j ns) ≡ false
+  taken-end : (j : ℕ) → length ns ≤ j → taken family n j (drop j ns) ≡ false
   unfolding taken
-  taken-end l = rw (drop_of_length-le ns l)
+  taken-end j l = rw (drop_of_length-le ns l)
 
--- a family that has no line before j is looked for from line j on
-pub taken-from : (family n : ℕ) (ns : List ℕ) (j : ℕ) → NoneBefore j family → taken family n 0 ns ≡ taken family n j (drop j ns)
-taken-from family n ns zero h = refl
-taken-from family n ns (suc j) h =
-    let e : j + 1 ≡ suc j = omega arith in
-    taken-from family n ns j (λ i l. h i (omega arith))
-    ∙ rw e at
-    (⊎_elim
-    (λ l. taken-end family n ns j l ∙ sym (taken-end family n ns (j + 1) (omega arith)))
-    (λ l. taken-skip family n ns j l (λ p q. eqb-false (row_at j).family family (h j (omega arith)) p))
-    (le-or-lt (length ns) j))
+  -- a family that has no line before j is looked for from line j on
+  taken-from : (j : ℕ) → NoneBefore j family → taken family n 0 ns ≡ taken family n j (drop j ns)
+  taken-from zero h = refl
+  taken-from (suc j) h =
+      let e : j + 1 ≡ suc j = omega arith in
+      taken-from j (λ i l. h i (omega arith))
+      ∙ rw e at
+      (⊎_elim
+      (λ l. taken-end j l ∙ sym (taken-end (j + 1) (omega arith)))
+      (λ l. rw (taken-next j l, h j (omega arith), and-false))
+      (le-or-lt (length ns) j))
+
+  -- by a test of the m lines from j on
+  taken-range : (j m : ℕ) → j + m ≡ length ns → taken family n j (drop j ns) ≡ list_any has (range_with_len j m)
+  taken-range j zero e = taken-end j (omega arith)
+  taken-range j (suc m) e = rw (taken-next j (omega arith), taken-range (j + 1) m (omega arith))
+
+  -- so the lines from one on tell, if the family has none before it
+  pub taken_any : (j : ℕ) → NoneBefore j family → taken family n 0 ns ≡ list_any has (range_with_len j (length ns - j))
+  taken_any j h =
+      taken-from j h
+      ∙ ⊎_elim
+      (λ l. let e : length ns - j ≡ 0 = omega arith in rw (taken-end j l, e))
+      (λ l. taken-range j (length ns - j) (omega arith))
+      (le-or-lt (length ns) j)
 
 -- ---- a number against its line's bounds and the lines before
 

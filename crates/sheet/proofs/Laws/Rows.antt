@@ -5,16 +5,15 @@ use mathlib.Core.Logic.{⊎_elim}
 use mathlib.Core.Bool.{Bool, true, false, ◌&&◌, and-false}
 use mathlib.Core.List.{List, [], ◌∷◌, ◌++◌}
 use mathlib.Core.Option.{none, some}
-use Prim.Native.Nat.{ℕ, suc, ◌+◌, ◌≤◌, ◌<◌, min}
-use native.Mathlib.Numerals.{add-one}
+use Prim.Native.Nat.{ℕ, suc, ◌≤◌, ◌<◌, min}
 use native.Mathlib.Omega.{arith}
 use lib.ListN.{length, get_or, take, drop, length-take, take-append-drop, get_or-eq_default}
-use lib.Seq.{drop-cons, length-take-le, get_or-take, take_all}
+use lib.Seq.{drop-cons, get_or-take, take_all}
 use lib.Dec.{T, eqb, eqb→eq}
-use borrow.Author.Tests.{eq-eqb, ne_eqb, le-leb, lt-leb, eqb-true, not-false}
+use borrow.Author.Tests.{eq-eqb, le-leb, lt-leb, eqb-true, not-false}
 use Rattle.octets.specs.Choice.{same, every, front, first_place}
 use Rattle.octets.specs.Buffer.{zeros_from}
-use Rattle.octets.proofs.Choice.{T_true, T_false, false-T, T-and-left, T-and-right, le-or-lt, test-eq, same-eq, eq-same, same_end, every_front, length-front-le, front-stop, front-all, front-append, front-drop-true, front-drop-false, front-drop-end, first-place-none, first-place-some}
+use Rattle.octets.proofs.Choice.{T_true, T_false, false-T, T-and-left, T-and-right, le-or-lt, test-eq, same-eq, eq-same, every_front, length-front-le, front-stop, front-all, front-append, first-place-some}
 use Rattle.octets.proofs.Places.{take-front, length-front-every}
 use Rattle.octets.proofs.Buffer.{same-padded}
 use Rattle.sheet.specs.Judge.{longest_name, user_id}
@@ -23,22 +22,6 @@ use Rattle.sheet.specs.Find.{seat_of_user, new_name}
 use Rattle.sheet.specs.Inner.{nonzero, good_row}
 
 -- ---- the name in a row, from a place on
-
--- a zero ends it
-pub name_of-zero : (row : List ℕ) (at : ℕ) → at < length row → get_or row at 0 ≡ 0 → name_of (drop at row) ≡ []
-unfolding name_of
-name_of-zero row at h e = front-drop-false nonzero row at h (rw (eq-eqb _ _ e))
-
--- any other octet goes on
-pub name_of-step : (row : List ℕ) (at : ℕ) → at < length row → (get_or row at 0 ≡ 0 → ⊥)
-    → name_of (drop at row) ≡ get_or row at 0 ∷ name_of (drop (at + 1) row)
-unfolding name_of
-name_of-step row at h e = front-drop-true nonzero row at h (rw (ne_eqb _ _ e))
-
--- the row's end ends it too
-pub name_of-end : (row : List ℕ) (at : ℕ) → length row ≤ at → name_of (drop at row) ≡ []
-unfolding name_of
-name_of-end row at h = front-drop-end nonzero row at h
 
 -- it is no longer than the row
 pub length-name_of-le : (row : List ℕ) → length (name_of row) ≤ length row
@@ -90,40 +73,16 @@ same-name_of row name =
     (eqb→eq _ _ (T-and-left ends (begins && whole) t))
     (rw (length-front-every nonzero name) at (T-and-right begins whole rest))))
 
--- ---- the first n octets of two rows, place by place
-
-module _ (a b : List ℕ) (n : ℕ) (h : n ≤ length a) (l : n ≤ length b) where
-  -- place i, then the places behind it
-  pub same-take-step : (i : ℕ) → i < n
-      → same (drop i (take n a)) (drop i (take n b)) ≡ (eqb (get_or a i 0) (get_or b i 0) && same (drop (i + 1) (take n a)) (drop (i + 1) (take n b)))
-  same-take-step i m =
-      rw (add-one, drop-cons (take n a) i 0 (omega (arith, length-take-le n a h)), drop-cons (take n b) i 0 (omega (arith, length-take-le n b l)), get_or-take n a i 0 m, get_or-take n b i 0 m)
-
-  -- no place is left
-  pub same-take-end : (i : ℕ) → n ≤ i → same (drop i (take n a)) (drop i (take n b)) ≡ true
-  same-take-end i m = same_end (take n a) (take n b) i (omega (arith, length-take-le n a h)) (omega (arith, length-take-le n b l))
+-- ---- the first n octets of two rows
 
 -- rows that differ there are not the same
 pub same-take-false : (n : ℕ) (a b : List ℕ) → same (take n a) (take n b) ≡ false → same a b ≡ false
 same-take-false n a b e = T_false (same a b) (λ t. false-T _ e (eq-same (take n a) (take n b) (ap (take n) (same-eq a b t))))
 
--- ---- the octets of one, place by place
-
--- place i, then the places behind it
-pub every-drop-step : (p : ℕ → Bool) (s : List ℕ) (i : ℕ) → i < length s → every p (drop i s) ≡ (p (get_or s i 0) && every p (drop (i + 1) s))
-every-drop-step p s i h = rw (add-one, drop-cons s i 0 h)
-
 -- ---- the first of so many seats that passes a test, where the seats before one fail
 
 module _ {ℓ} {A : Type ℓ} (p : A → Bool) (xs : List A) (d : A) (seats i : ℕ)
     (before : (k : ℕ) → k < i → p (get_or xs k d) ≡ false) where
-  -- those were all
-  pub first-seat-none : min seats (length xs) ≤ i → first_place p (take seats xs) ≡ none
-  first-seat-none h =
-      first-place-none p (take seats xs) d
-      (λ k l. let m : k < min seats (length xs) = rw length-take at l in
-      rw (get_or-take seats xs k d (omega arith)) (before k (omega arith)))
-
   -- the next one passes
   pub first-seat-some : i < min seats (length xs) → p (get_or xs i d) ≡ true → first_place p (take seats xs) ≡ some i
   first-seat-some h e =

@@ -74,8 +74,8 @@ right_rule k c t =
     }
 
 -- its bounds are the row's
-pub rule-between : {k : ℕ} {c : Rule} → RuleOf k c → (n : ℕ) → between c.least c.greatest n ≡ within k n
-rule-between r n = rw (r.least, r.greatest)
+pub rule-within : {k : ℕ} {c : Rule} {b : Bool} → RuleOf k c → (n : ℕ) → b ≡ between c.least c.greatest n → b ≡ within k n
+rule-within r n e = rw (e, r.least, r.greatest)
 
 -- so the code's rule of line i is that of k, which is i
 pub rule_at : (i : ℕ) (c : Rule) → T (right (row_at i) c) → {k : ℕ} → k ≡ i → RuleOf k c

@@ -9,11 +9,11 @@ use lib.ListN.{length, get_or, take, drop, length-append, length-take, length-dr
 use lib.Seq.{length-take-le, take-take, get_or-take, take-append-add, drop-append-add, get_or-append-add, ext_get_or}
 use lib.Dec.{T, eqb, eqb→eq}
 use borrow.Author.Tests.{eq-eqb, ne_eqb, eqb-false}
+use Rattle.std.proofs.lemmas.List.{take-map, get_or_default}
 use Rattle.octets.specs.Choice.{same, some_of}
 use Rattle.octets.specs.Buffer.{zeros_from, padded}
 use Rattle.octets.proofs.Choice.{T_true, true-T, T_false, false-T, decide, pick_true, pick-false, T_and, T-and-left, T-and-right, same-eq, eq-same, le-or-lt}
 use Rattle.octets.proofs.Buffer.{padded-full, get_or-padded, length-padded, same-padded}
-use Rattle.octets.proofs.Lists.{map-take, get_or_default}
 use Rattle.sheet.specs.declared.Sheet.{Sheet}
 use Rattle.sheet.specs.Table.{table, row_at, number_lines, seats_line, most_seats}
 use Rattle.sheet.specs.Judge.{Entry, numbers_in, names_in, taken, good_number, user_id, good_name, good, in_turn, whole, valid}
@@ -217,7 +217,7 @@ module _ (s : Sheet) (users : List (List ℕ)) (eight : length s.ssrcs ≡ most_
   entry-judged : (k : ℕ) → good_number (numbers_in (take k es)) (get_or es k (alone 0)).number ≡ good_number (take k (numbers_of s ++ xs)) (get_or (numbers_of s ++ xs) k 0)
   entry-judged k =
       ap₂ good_number
-      (map-take (λ (e : Entry). e.number) k es ∙ ap (take k) entries-numbers)
+      (sym (take-map (λ (e : Entry). e.number) k es) ∙ ap (take k) entries-numbers)
       (sym (get_or-map (λ (e : Entry). e.number) es k (alone 0)) ∙ ap (λ (ns : List ℕ). get_or ns k 0) entries-numbers)
 
   -- a line with a number alone has no name
@@ -231,10 +231,10 @@ module _ (s : Sheet) (users : List (List ℕ)) (eight : length s.ssrcs ≡ most_
   names-before : (i : ℕ) → i ≤ s.seats → names_in (take (number_lines + i) es) ≡ blank ++ map name_of (take i users)
   unfolding numbers_of number_lines table
   names-before i h =
-      map-take (λ (e : Entry). e.name) (number_lines + i) es
+      sym (take-map (λ (e : Entry). e.name) (number_lines + i) es)
       ∙ ap (take (number_lines + i)) entries-names
       ∙ take-append-add blank (map name_of on-seats) i
-      ∙ ap (λ (names : List (List ℕ)). blank ++ names) (sym (map-take name_of i on-seats) ∙ ap (map name_of) (take-take i s.seats users h))
+      ∙ ap (λ (names : List (List ℕ)). blank ++ names) (take-map name_of i on-seats ∙ ap (map name_of) (take-take i s.seats users h))
 
   name-at : (i : ℕ) → i < s.seats → (get_or es (number_lines + i) (alone 0)).name ≡ name_of (get_or users i [])
   unfolding numbers_of number_lines table name_of

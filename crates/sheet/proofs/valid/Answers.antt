@@ -7,4 +7,4 @@ use Rattle.sheet.proofs.valid.Goals as goal
 
 pub returns : goal.returns
 unfolding most_seats
-returns c = judged-own _ _ _ (search rules) c.numbers_of-numbers.ensures c.are_valid.ensures
+returns c = judged-own _ _ _ (search rules) c.numbers_of.ensures c.are_valid.ensures

@@ -1,6 +1,6 @@
 -- `sheet_line::digits` meets its contract: the number is the digits' so far, as far as CAP; with those still ahead it makes the whole.
 use mathlib.Core.Path.{◌≡◌}
-use Prim.Native.Nat.{ℕ, ◌+◌, ◌-◌, min}
+use Prim.Native.Nat.{ℕ, ◌+◌, min}
 use lib.ListN.{length, drop}
 use Rattle.octets.specs.Choice.{front}
 use Rattle.octets.specs.Text.{digit, value_from, value_of}
@@ -13,6 +13,3 @@ invariant-loop-i l =
     × (v : ℕ)
     × (l.number ≡ min v cap)
     × (value_from v (front digit (drop l.i l.text)) ≡ value_of (front digit (drop l.at l.text)))
-
-abbrev pub decreases-loop-i : goal.decreases-loop-i
-decreases-loop-i l = length l.text - l.i

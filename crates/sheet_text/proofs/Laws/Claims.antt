@@ -2,12 +2,12 @@
 use mathlib.Core.Path.{◌≡◌, refl, sym, ap, ap₂, ◌∙◌, subst}
 use mathlib.Core.Logic.{⊎_elim}
 use mathlib.Core.List.{List, [], ◌++◌}
-use Prim.Native.Nat.{ℕ, ◌+◌, ◌<◌, zero-le}
+use Prim.Native.Nat.{ℕ, ◌<◌, zero-le}
 use native.Mathlib.Nat.{le_refl, le_antisymm, zero-add}
-use native.Mathlib.Omega.{arith}
 use lib.ListN.{length, take, drop, take-append-drop}
 use lib.Seq.{take-append_seam, take_all}
 use lib.Dec.{T}
+use Rattle.std.specs.Prelude.{Result, Ok, Err}
 use Rattle.octets.proofs.Choice.{le-or-lt, T-and-right}
 use Rattle.sheet.specs.declared.Sheet.{Sheet}
 use Rattle.sheet.specs.declared.Refusal.{Refusal}
@@ -17,7 +17,7 @@ use Rattle.sheet.proofs.Laws.Fresh.{completed}
 use Rattle.sheet.proofs.Laws.Laid.{valid-good, entries_of-laid, laid-valid, valid-entries, sheet_of-entries, users_of-entries}
 use Rattle.sheet_text.specs.declared.Reading.{Reading}
 use Rattle.sheet_text.specs.Text.{text_from, text_of}
-use Rattle.sheet_text.specs.Reading.{Outcome, reads, refused, outcome, lines, no_refusal, bad_line, reading_of, users_from, read_of, users_in}
+use Rattle.sheet_text.specs.Reading.{Outcome, reads, refused, outcome, lines, bad_line, reading_of, users_from, read_of, users_in}
 use Rattle.sheet_text.specs.Claims.{value_text, ReadsTo, ReadsExactly, ValidExactly, SomeBegins, NoneReads, NamedExactly}
 use Rattle.sheet_text.proofs.Laws.Lines.{text_from-append}
 use Rattle.sheet_text.proofs.Laws.Readings.{outcome-reads, reads-outcome}
@@ -25,13 +25,17 @@ use Rattle.sheet_text.proofs.Laws.Named.{none-begins, some_begins, lines-front}
 
 -- ---- which texts read
 
+-- two readings in one answer
+inside : {a b : Reading} → ◌≡◌ {A = Result Reading Refusal} (Ok a) (Ok b) → a ≡ b
+inside p = cc
+
 -- what was read, by the outcome
 module _ (s : Sheet) (users : List (List ℕ)) (n : ℕ) where
-  read-to : (o : Outcome) → reading_of o ≡ record { sheet = s; used = n; refusal = no_refusal } → users_from o ≡ users
+  read-to : (o : Outcome) → reading_of o ≡ Ok (record { sheet = s; used = n }) → users_from o ≡ users
       → (es : List Entry) × (o ≡ reads es) × (sheet_of es ≡ s) × (length (text_of es) ≡ n) × (users_of es ≡ users)
   unfolding reading_of users_from
-  read-to (reads es) p q = (es, refl, ap (λ (r : Reading). r.sheet) p, ap (λ (r : Reading). r.used) p, q)
-  read-to (refused k) p q = let z : ◌≡◌ {A = ℕ} 12 0 = ap (λ (r : Reading). r.refusal.number) p in absurd (omega arith)
+  read-to (reads es) p q = let r = inside p in (es, refl, ap (λ (x : Reading). x.sheet) r, ap (λ (x : Reading). x.used) r, q)
+  read-to (refused k) p q = cc
 
   reads-valid : (t : List ℕ) → ReadsTo t s users n → T (valid_with s users) × (n ≡ length (value_text s users)) × (take n t ≡ value_text s users)
   unfolding read_of users_in
@@ -53,7 +57,7 @@ module _ (s : Sheet) (users : List (List ℕ)) (n : ℕ) where
       let x : t ≡ text_of es ++ drop n t = sym (take-append-drop n t) ∙ ap (λ (y : List ℕ). y ++ drop n t) w.2 in
       let o : outcome t ≡ reads es = ap outcome x ∙ reads-outcome es (drop n t) (valid-entries s users w.0) in
       let a = sheet_of-entries s users w.0 in (
-        ap reading_of o ∙ (λ i. record { sheet = a i; used = sym w.1 i; refusal = no_refusal }),
+        ap reading_of o ∙ (λ i. Ok (record { sheet = a i; used = sym w.1 i })),
         ap users_from o ∙ users_of-entries s users w.0,
       )
 
@@ -70,10 +74,10 @@ valid_exactly s users = (
 
 -- ---- which line is named
 
-refused-by : (o : Outcome) (k : ℕ) → (reading_of o).refusal ≡ bad_line k → o ≡ refused k
+refused-by : (o : Outcome) (k : ℕ) → reading_of o ≡ Err (bad_line k) → o ≡ refused k
 unfolding reading_of
-refused-by (reads es) k p = let z : ◌≡◌ {A = ℕ} 0 12 = ap (λ (r : Refusal). r.number) p in absurd (omega arith)
-refused-by (refused i) k p = ap refused (ap (λ (r : Refusal). r.at) p)
+refused-by (reads es) k p = cc
+refused-by (refused i) k p = cc
 
 module _ (t : List ℕ) (k : ℕ) (p : outcome t ≡ refused k) where
   none_has : SomeBegins t k → ⊥
@@ -103,22 +107,21 @@ module _ (t : List ℕ) (k : ℕ) (p : outcome t ≡ refused k) where
       )
 
 -- a text that some sheet is the front of is not refused
-refused_none : (t : List ℕ) (k : ℕ) → (read_of t).refusal ≡ bad_line k → NoneReads t
+refused_none : (t : List ℕ) (k : ℕ) → read_of t ≡ Err (bad_line k) → NoneReads t
 refused_none t k p s users v e =
     let r = valid-reads s users (length (value_text s users)) t (v, refl, e) in
-    let z : ◌≡◌ {A = ℕ} 12 0 = ap (λ (x : Refusal). x.number) (sym p ∙ ap (λ (x : Reading). x.refusal) r.0) in
-    omega arith
+    cc (p, r.0)
 
 -- the least such line is the one that is named
 least-line : (t : List ℕ) (k : ℕ) → NoneReads t → (SomeBegins t k → ⊥) → ((j : ℕ) → j < k → SomeBegins t j)
-    → (o : Outcome) → outcome t ≡ o → (reading_of o).refusal ≡ bad_line k
+    → (o : Outcome) → outcome t ≡ o → reading_of o ≡ Err (bad_line k)
 unfolding reading_of
 least-line t k none never before (reads es) p =
     let v = outcome-reads t es p in
     let e : entries_of (sheet_of es) (users_of es) ≡ es = entries_of-laid es v.0 in
     absurd (none (sheet_of es) (users_of es) (laid-valid es v.0) (rw e (ap (λ (x : List ℕ). take (length (text_of es)) x) v.1.1 ∙ take-append_seam (text_of es) v.1.0)))
 least-line t k none never before (refused i) p =
-    ap bad_line
+    ap (λ (n : ℕ). Err (bad_line n))
     (⊎_elim
     (λ h. ⊎_elim (λ l. le_antisymm l h) (λ l. absurd (never (some-has t i p k l))) (le-or-lt i k))
     (λ h. absurd (none_has t i p (before i h)))

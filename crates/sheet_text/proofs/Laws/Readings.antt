@@ -10,14 +10,17 @@ use native.Mathlib.Omega.{arith}
 use lib.ListN.{length, length-append}
 use lib.Seq.{drop-append_seam}
 use lib.Dec.{T}
+use Rattle.std.specs.Prelude.{Err}
 use Rattle.octets.specs.Choice.{pick, begins}
 use Rattle.octets.proofs.Choice.{pick-cases, T_true, decide, T_and, T-and-left, T-and-right, begins-append, begins-split}
+use Rattle.sheet.specs.declared.Refusal.{Refusal}
+use Rattle.sheet.specs.Refusal.{refusal_line}
 use Rattle.sheet.specs.Table.{row_at}
 use Rattle.sheet.specs.Judge.{Entry, numbers_in, good, in_turn, whole, valid}
 use Rattle.sheet.proofs.Laws.Entries.{good-shaped, numbers_in-append, whole-front}
 use Rattle.sheet_line.specs.Line.{line_of, entry_in}
 use Rattle.sheet_text.specs.Text.{text_from, text_of}
-use Rattle.sheet_text.specs.Reading.{Outcome, reads, refused, good_line, behind, read_by, outcome, reading_of, read_of}
+use Rattle.sheet_text.specs.Reading.{Outcome, reads, refused, good_line, behind, read_by, outcome, bad_line, reading_of, read_of}
 use Rattle.sheet_line.proofs.Laws.LineAt.{line_pos}
 use Rattle.sheet_text.proofs.Laws.Lines.{entry_line}
 
@@ -196,22 +199,30 @@ reads-outcome es u t =
 -- ---- which line may be named
 
 -- no line is named past the last that was read
-read_by-at : (f : ℕ) (b : List Entry) (s : List ℕ) → (reading_of (read_by f b s)).refusal.at ≤ length b + f + 1
-unfolding read_by reading_of
+read_by-at : (f : ℕ) (b : List Entry) (s : List ℕ) (k : ℕ) → read_by f b s ≡ refused k → k ≤ length b + f + 1
+unfolding read_by
 read_by-at zero b s =
-    pick-cases (λ (o : Outcome). (reading_of o).refusal.at ≤ length b + 0 + 1) (whole (numbers_in b)) (reads b) (refused (length b + 1))
-    (λ _. omega arith) (λ _. omega arith)
+    pick-cases (λ (o : Outcome). (k : ℕ) → o ≡ refused k → k ≤ length b + 0 + 1) (whole (numbers_in b)) (reads b) (refused (length b + 1))
+    (λ _ k p. cc) (λ _ k p. let e : length b + 1 ≡ k = cc in omega arith)
 read_by-at (suc f) b s =
     let next = b ++ (entry_in (row_at (length b)) s ∷ []) in
     let more = read_by f next (behind b s) in
-    let P : Outcome → Type 0 = λ o. (reading_of o).refusal.at ≤ length b + suc f + 1 in
+    let P : Outcome → Type 0 = λ o. (k : ℕ) → o ≡ refused k → k ≤ length b + suc f + 1 in
     pick-cases P (whole (numbers_in b)) (reads b) (pick (good_line b s) more (refused (length b + 1)))
-    (λ _. omega arith)
+    (λ _ k p. cc)
     (λ _. pick-cases P (good_line b s) more (refused (length b + 1))
-    (λ _. omega (arith, read_by-at f next (behind b s), length-append b (entry_in (row_at (length b)) s ∷ [])))
-    (λ _. omega arith))
+    (λ _ k p. omega (arith, read_by-at f next (behind b s) k p, length-append b (entry_in (row_at (length b)) s ∷ [])))
+    (λ _ k p. let e : length b + 1 ≡ k = cc in omega arith))
+
+-- a refusal is that of the outcome's line
+pub refused-as : (o : Outcome) (r : Refusal) → reading_of o ≡ Err r → (k : ℕ) × (o ≡ refused k) × (r ≡ bad_line k)
+unfolding reading_of
+refused-as (reads es) r p = cc
+refused-as (refused k) r p = (k, refl, cc)
 
 -- nor past the octets of the text
-pub read_at : (t : List ℕ) → (read_of t).refusal.at ≤ length t + 1
+pub read_at : (t : List ℕ) (r : Refusal) → read_of t ≡ Err r → refusal_line r ≤ length t + 1
 unfolding read_of outcome
-read_at t = omega (arith, read_by-at (length t) [] t)
+read_at t r p =
+    let w = refused-as (outcome t) r p in
+    rw w.2 (omega (arith, read_by-at (length t) [] t w.0 w.1))

@@ -1,6 +1,6 @@
 -- Laws on the reader's one pass: what its arrays hold after some good lines, and what one line more does. Assumes nothing.
 use mathlib.Core.Path.{fun_ext, ◌≡◌, refl, sym, ap, ap₂, ◌∙◌, subst}
-use mathlib.Core.Logic.{◌⊎◌, ⊎_elim}
+use mathlib.Core.Logic.{⊎_elim}
 use mathlib.Core.Bool.{Bool, true, false, not, ◌&&◌}
 use mathlib.Core.List.{List, [], ◌∷◌, ◌++◌, map, map-append}
 use Prim.Native.Nat.{ℕ, zero, suc, ◌+◌, ◌-◌, ◌≤◌, ◌<◌, zero-le}
@@ -8,13 +8,15 @@ use native.Mathlib.Nat.{le_refl, add-zero}
 use native.Mathlib.Omega.{arith}
 use lib.ListN.{length, get_or, set, take, drop, replicate, take-append-drop, length-append, length-map, length-drop, get_or-replicate, length-replicate, drop_of_length-le}
 use lib.Seq.{drop-append-le, drop-drop, get_or-append-add, length-take-le}
-use lib.Dec.{T, leb, eqb}
-use borrow.Author.Tests.{le-leb, lt-leb, eq-eqb, ne_eqb}
+use lib.Dec.{T, leb}
+use borrow.Author.Tests.{le-leb, lt-leb}
+use Rattle.std.specs.Prelude.{Ok, Err, is_ok}
 use Rattle.octets.specs.Choice.{pick, same, begins, some_of}
 use Rattle.octets.specs.Buffer.{padded, over, put_at}
-use Rattle.octets.proofs.Lists.{map-drop, drop-replicate}
-use Rattle.octets.proofs.Choice.{true-T, false-T, T_true, T_false, le-or-lt, T-and-left, T-and-right, pick_true, pick-false, pick-cases}
+use Rattle.std.proofs.lemmas.List.{drop-map, drop-replicate}
+use Rattle.octets.proofs.Choice.{T_true, T_false, le-or-lt, T-and-left, T-and-right}
 use Rattle.octets.proofs.Buffer.{over-put_at, take-padded, set-padded, get_or-padded, padded-full, padded-nil}
+use Rattle.sheet.specs.declared.Refusal.{Refusal}
 use Rattle.sheet.specs.Table.{table, number_lines, seats_line, most_seats, row_at}
 use Rattle.sheet.specs.Judge.{Entry, numbers_in, names_in, good_number, longest_name, user_id, good_name, good, in_turn, whole}
 use Rattle.sheet.specs.Value.{sheet_by, sheet_from, sheet_of, row_of, users_of, name_of, alone}
@@ -25,10 +27,11 @@ use Rattle.sheet.proofs.Laws.Fresh.{seats_bound}
 use Rattle.sheet.proofs.Laws.Names.{no_name, seat-named, new_among}
 use Rattle.sheet.proofs.Laws.Laid.{alone-take, name_of-row_of, seat-name}
 use Rattle.sheet_line.specs.Line.{line_of, entry_in}
+use Rattle.sheet_text.specs.declared.Reading.{Reading}
 use Rattle.sheet_text.specs.Text.{text_from, text_of}
-use Rattle.sheet_text.specs.Reading.{Outcome, reads, refused, good_line, behind, read_by, outcome, no_refusal, reading_of, users_from, read_of, users_in, users_over}
+use Rattle.sheet_text.specs.Reading.{Outcome, reads, refused, good_line, behind, read_by, outcome, reading_of, users_from, read_of, users_in, users_over}
 use Rattle.sheet_text.specs.Inner.{good_at, JudgedIs}
-use Rattle.sheet_line.specs.declared.Line.TheVariants.{Good}
+use Rattle.sheet_line.specs.declared.Line.{Line}
 use Rattle.sheet_text.proofs.Laws.Lines.{length-text_of-snoc}
 use Rattle.sheet_text.proofs.Laws.Readings.{entry_at, good_line-good, read_by-whole, read_by-bad, read_by-good, length-behind}
 
@@ -58,7 +61,7 @@ module _ (b : List Entry) (t : T (in_turn good [] b)) (h : number_lines ≤ leng
       let rows = map row_of (drop number_lines (names_in b)) in
       ap (λ (n : ℕ). take n (padded most_seats (row_of []) rows)) (sym (length-rows b))
       ∙ take-padded most_seats (row_of []) rows
-      ∙ ap (λ (names : List (List ℕ)). map row_of names) (map-drop (λ (e : Entry). e.name) number_lines b)
+      ∙ ap (λ (names : List (List ℕ)). map row_of names) (drop-map (λ (e : Entry). e.name) number_lines b)
 
   names-split : names_in b ≡ names_in (map alone (take number_lines (numbers_in b))) ++ names_in (drop number_lines b)
   names-split =
@@ -320,10 +323,10 @@ module _ {t numbers : List ℕ} {users : List (List ℕ)} {at k : ℕ} (i : Scan
 -- ---- one turn of the pass
 
 module _ {t numbers : List ℕ} {users : List (List ℕ)} {at k : ℕ} (i : Scanned t numbers users at k) (h : k < lines_in numbers)
-    (n a e : ℕ) (j : JudgedIs t at k numbers users (Good n a e)) where
+    (line : Line) (j : JudgedIs t at k numbers users (Ok line)) where
   -- a name fits its row
   name-short : number_lines ≤ k → length (entry_in (row_at k) (drop at t)).name ≤ longest_name
-  unfolding JudgedIs good_at new_name
+  unfolding good_at new_name
   name-short l =
       let x = entry_in (row_at k) (drop at t) in
       let seat = is_none (seat_of_user (k - number_lines) users x.name) in
@@ -339,33 +342,33 @@ module _ {t numbers : List ℕ} {users : List (List ℕ)} {at k : ℕ} (i : Scan
       ∙ ap length (next_row i.before (let c = i.count in omega arith))
 
   -- so that it is put whole
-  name-fits : number_lines ≤ k → length (take (e - a) (drop a t)) ≤ length (get_or users (k - number_lines) [])
-  unfolding number_lines table JudgedIs
-  name-fits l = let m : length (take (e - a) (drop a t)) ≡ length (entry_in (row_at k) (drop at t)).name = ap length j.2.octets in omega (arith, name-short l, row-long l)
+  name-fits : number_lines ≤ k → length (take (line.end - line.name) (drop line.name t)) ≤ length (get_or users (k - number_lines) [])
+  unfolding number_lines table
+  name-fits l = let m : length (take (line.end - line.name) (drop line.name t)) ≡ length (entry_in (row_at k) (drop at t)).name = ap length j.3.octets in omega (arith, name-short l, row-long l)
 
-  -- the User IDs after it
-  abbrev pub UsersAfter : List (List ℕ) → Type 0
-  UsersAfter users' =
-      ((number_lines ≤ k) × (users' ≡ set users (k - number_lines) (put_at (get_or users (k - number_lines) []) 0 (take (e - a) (drop a t))))) ⊎ ((k < number_lines) × (users' ≡ users))
+  -- what the pass holds behind it
+  turned : (users' : List (List ℕ)) → users' ≡ users_of (i.before ++ (entry_in (row_at k) (drop at t) ∷ []))
+      → Scanned t (set numbers k line.number) users' (line.end + 1) (k + 1)
+  turned users' u =
+      subst (λ (x : ℕ). Scanned t (set numbers k x) users' (line.end + 1) (k + 1)) (sym j.1) (scanned-more i h j.0 users' (line.end + 1) u j.4)
 
-  users-after : (users' : List (List ℕ)) → UsersAfter users' → users' ≡ users_of (i.before ++ (entry_in (row_at k) (drop at t) ∷ []))
-  unfolding number_lines table JudgedIs
-  users-after users' w =
-      ⊎_elim
-      (λ u.
-      u.1
-      ∙ ap (λ (row : List ℕ). set users (k - number_lines) row) (sym (over-put_at (take (e - a) (drop a t)) (get_or users (k - number_lines) []) (name-fits u.0)))
-      ∙ ap (λ (name : List ℕ). set users (k - number_lines) (over name (get_or users (k - number_lines) []))) j.2.octets
-      ∙ users-next i h u.0)
-      (λ u. u.1 ∙ users-same i h u.0)
-      w
+  -- behind a line with a number alone
+  pub scanned-alone : k < number_lines → Scanned t (set numbers k line.number) users (line.end + 1) (k + 1)
+  scanned-alone l = turned users (users-same i h l)
 
-  -- what the pass holds after a turn
-  pub scanned-turn : (users' : List (List ℕ)) → UsersAfter users' → Scanned t (set numbers k n) users' (e + 1) (k + 1)
-  unfolding JudgedIs
-  scanned-turn users' u =
-      subst (λ (x : ℕ). Scanned t (set numbers k x) users' (e + 1) (k + 1)) (sym j.1)
-      (scanned-more i h j.0 users' (e + 1) (users-after users' u) j.3)
+  -- behind that of a seat
+  pub scanned-seat : (s : ℕ) → k ≡ number_lines + s
+      → Scanned t (set numbers k line.number) (set users s (put_at (get_or users s []) 0 (take (line.end - line.name) (drop line.name t)))) (line.end + 1) (k + 1)
+  scanned-seat s e =
+      let name = take (line.end - line.name) (drop line.name t) in
+      let row = get_or users (k - number_lines) [] in
+      let seat : number_lines ≤ k = omega arith in
+      let m : k - number_lines ≡ s = omega arith in
+      rw m at
+      (turned (set users (k - number_lines) (put_at row 0 name))
+      (ap (λ (x : List ℕ). set users (k - number_lines) x) (sym (over-put_at name row (name-fits seat)))
+      ∙ ap (λ (x : List ℕ). set users (k - number_lines) (over x row)) j.3.octets
+      ∙ users-next i h seat))
 
 -- ---- what the pass gives
 
@@ -385,52 +388,41 @@ sheet_from-padded ns h =
 
 module _ {t numbers : List ℕ} {users : List (List ℕ)} {at k : ℕ} (i : Scanned t numbers users at k) where
   -- at a bad line the reading is that refusal
-  pub scanned-refused : k < lines_in numbers → good_at t at k numbers users ≡ false → read_of t ≡ reading_of (refused (k + 1))
-  unfolding read_of
-  scanned-refused h g = ap reading_of (scanned-bad i h g)
+  pub scanned-refused : k < lines_in numbers → (r : Refusal) → JudgedIs t at k numbers users (Err r) → Err r ≡ read_of t
+  unfolding read_of reading_of
+  scanned-refused h r j = rw (scanned-bad i h j.0, j.1)
 
   -- behind the last line the reading is the numbers laid out
-  pub scanned-reading : lines_in numbers ≤ k → read_of t ≡ record { sheet = sheet_from numbers; used = at; refusal = no_refusal }
+  pub scanned-reading : lines_in numbers ≤ k → Ok (record { sheet = sheet_from numbers; used = at }) ≡ read_of t
   unfolding read_of reading_of sheet_of
   scanned-reading h =
       let ns = numbers_in i.before in
       let l : sheet_from numbers ≡ sheet_from ns = ap sheet_from i.numbers_are ∙ sheet_from-padded ns (let m = length-numbers_in i.before in omega (arith, scanned-lines i, i.count)) in
-      ap reading_of (scanned-all i h) ∙ (λ j. record { sheet = sym l j; used = sym i.place j; refusal = no_refusal })
+      (λ j. Ok (record { sheet = l j; used = i.place j })) ∙ sym (ap reading_of (scanned-all i h))
 
   -- and the User IDs are those that were put
-  pub scanned-users : lines_in numbers ≤ k → users_in t ≡ users
+  pub scanned-users : lines_in numbers ≤ k → users ≡ users_in t
   unfolding users_in users_from
-  scanned-users h = ap users_from (scanned-all i h) ∙ sym i.users_are
+  scanned-users h = i.users_are ∙ sym (ap users_from (scanned-all i h))
 
--- the User IDs beside a refusal
-users-by : (o : Outcome) → ((reading_of o).refusal.number ≡ 0 → ⊥) → users_from o ≡ users_of []
-unfolding reading_of users_from
-users-by (reads _) h = absurd (h refl)
-users-by (refused k) h = refl
-
--- a refused sheet has no User IDs
-pub users_in-refused : (t : List ℕ) → ((read_of t).refusal.number ≡ 0 → ⊥) → users_in t ≡ users_of []
-unfolding read_of users_in
-users_in-refused t h = users-by (outcome t) h
-
--- those of a sheet that reads stand where others were
-pub users-read : (t : List ℕ) (users : List (List ℕ)) → (read_of t).refusal.number ≡ 0 → users_over t users ≡ users_in t
+-- the User IDs of a sheet that reads stand where others were
+pub users-read : (t : List ℕ) (users : List (List ℕ)) (x : Reading) → Ok x ≡ read_of t → users_over t users ≡ users_in t
 unfolding users_over
-users-read t users e = pick_true _ _ _ (eq-eqb _ 0 e)
+users-read t users x e = rw (← e)
 
 -- beside a refusal the others do
-pub users-refused : (t : List ℕ) (users : List (List ℕ)) → ((read_of t).refusal.number ≡ 0 → ⊥) → users_over t users ≡ users
+pub users-refused : (t : List ℕ) (users : List (List ℕ)) (r : Refusal) → Err r ≡ read_of t → users_over t users ≡ users
 unfolding users_over
-users-refused t users h = pick-false _ _ _ (ne_eqb _ 0 h)
+users-refused t users r e = rw (← e)
 
 -- so rows of zeros hold the User IDs of any text that was read over them
 pub users-over-none : (t : List ℕ) → users_over t (users_of []) ≡ users_in t
-unfolding users_over
-users-over-none t =
-    let n = (read_of t).refusal.number in
-    pick-cases (λ users. users ≡ users_in t) (eqb n 0) (users_in t) (users_of [])
-    (λ _. refl)
-    (λ e. sym (users_in-refused t (λ q. false-T (eqb n 0) e (true-T _ (eq-eqb n 0 q)))))
+unfolding users_over read_of users_in reading_of users_from
+users-over-none t = by-outcome (outcome t)
+  where
+    by-outcome : (o : Outcome) → pick (is_ok (reading_of o)) (users_from o) (users_of []) ≡ users_from o
+    by-outcome (reads _) = refl
+    by-outcome (refused _) = refl
 
 -- eight rows of zeros
 pub no_users : replicate 8 (replicate 60 0) ≡ users_of []

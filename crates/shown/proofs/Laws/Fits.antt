@@ -1,16 +1,19 @@
 -- Laws of how much room a printed line takes: no octet of the input makes more than ten of the output. Assumes nothing.
-use mathlib.Core.Path.{◌≡◌, refl, ap, ◌∙◌}
+use mathlib.Core.Path.{◌≡◌, refl, sym, ap, ◌∙◌}
 use mathlib.Core.Bool.{Bool, ◌&&◌}
 use mathlib.Core.List.{List, [], map}
 use mathlib.Core.Option.{Option, none, some}
 use Prim.Native.Nat.{ℕ, ◌+◌, ◌-◌, ◌*◌, ◌%◌, ◌≤◌, ◌<◌}
+use native.Mathlib.Nat.{zero-add}
 use native.Mathlib.Omega.{arith}
 use lib.ListN.{length, length-append}
 use lib.Dec.{T, leb, eqb, leb→le}
 use borrow.Author.Tests.{le-leb, lt-leb}
+use Rattle.std.specs.Prelude.{Ok, Err}
 use Rattle.octets.specs.Hex.{is_hex, hex_octets}
 use Rattle.octets.specs.Text.{decimal}
 use Rattle.octets.proofs.Choice.{T-and-left, T-and-right, pick-cases}
+use Rattle.octets.proofs.Buffer.{over-put_at}
 use Rattle.octets.proofs.Hex.{is_hex-even, length-hex_octets, hex_octets-lt}
 use Rattle.octets.proofs.Text.{length-decimal-le}
 use Rattle.fields.specs.Header.{first_field, word, size_right, head_right, ack_asked}
@@ -23,6 +26,8 @@ use Rattle.kinds.specs.Reading.{Outcome, refused, check, slots_in, message_of, r
 use Rattle.packet.proofs.Laws.Accepts.{read_by-is, accepts_exactly}
 use Rattle.hex_line.specs.Line.{most_digits, line_right, packet_in}
 use Rattle.shown.specs.Line.{number_line, text_of, line_as, line_by, sheet_line, line_room, fitting}
+use Rattle.sheet.specs.declared.Refusal.TheVariants.{NoRoom}
+use Rattle.shown.specs.Promises.{Whole, Put}
 use Rattle.shown.specs.Claims.{most_text, LineFits}
 use Rattle.shown.proofs.Laws.Widths.{Octets, kind-narrow, reads_fit}
 
@@ -127,3 +132,15 @@ module _ (asked octets at : ℕ) (text : List ℕ) where
   pub fitting-none : octets - at < asked → fitting asked octets at text ≡ []
   unfolding fitting
   fitting-none h = rw (lt-leb asked (octets - at) h)
+
+-- ---- at the front of a buffer
+
+module _ (text out : List ℕ) where
+  -- where the text has no room it is refused
+  pub not_printed : length out < length text → Whole text out (Err NoRoom) out
+  not_printed short = rw (lt-leb (length text) (length out) short) (refl, refl)
+
+  -- and where it is put it is whole
+  pub printed : length text ≤ length out → (end : ℕ) (now : List ℕ) → Put text out 0 end now → Whole text out (Ok end) now
+  printed room end now put =
+      rw (le-leb (length text) (length out) room) (ap Ok (put.1 ∙ zero-add (length text)), put.0 ∙ sym (over-put_at text out room))

@@ -1,23 +1,22 @@
 -- Laws of a message's row: it shows the ten values of the message. Assumes nothing.
 use mathlib.Core.Path.{◌≡◌, refl, ap, ◌∙◌}
 use mathlib.Core.Bool.{Bool, true, false}
-use Prim.Native.Nat.{ℕ, ◌+◌, ◌-◌, ◌≤◌, ◌<◌}
+use Prim.Native.Nat.{ℕ, zero, suc, ◌+◌}
 use native.Mathlib.Omega.{arith}
-use mathlib.Core.List.{List, [], ◌∷◌, ◌++◌, map}
-use lib.ListN.{length, get_or, take, drop, length-map, length-take, get_or-append, get_or-map}
-use lib.Seq.{get_or-take, get_or-drop, get_or-append-add}
+use mathlib.Core.List.{List, [], ◌∷◌}
+use lib.ListN.{length, get_or, take, drop, drop_of_length-le}
+use lib.Seq.{drop-cons}
 use lib.Dec.{T, eqb}
+use Rattle.std.specs.Prelude.{None, Some}
 use Rattle.octets.specs.Choice.{same}
 use Rattle.octets.proofs.Choice.{pick-cases}
-use Rattle.octets.proofs.Lists.{get_or_default}
-use Rattle.packet.specs.declared.Indicator.TheVariants.{Absent, Given}
 use Rattle.packet.specs.declared.Verdict.TheVariants.{Granted, Rejected}
 use Rattle.packet.specs.declared.Message.{Message}
 use Rattle.packet.specs.declared.Message.TheVariants.{ReceiveRequest, ReceiveResponse, EndRequest, EndResponse, TransmissionEnd, TransmissionEndResponse, Ack}
 use Rattle.kinds.specs.Judge.{Held, absent, given}
 use Rattle.kinds.specs.Reading.{Outcome, reads, refused}
 use Rattle.packet.specs.Message.{message_said}
-use Rattle.packet.specs.Row.{no_number, columns, with_held, with_all, message_row, row_for, held_in, numbers_say, message_in}
+use Rattle.packet.specs.Row.{columns, with_held, with_all, message_row, row_for, held_in, numbers_say, message_in}
 use Rattle.packet.specs.Promises.{row_of≡}
 use Rattle.shown.specs.Line.{ten_of, names_of, under}
 use Rattle.shown.specs.Inner.{ten_said, number_held, name_held, names_one, row_ten}
@@ -59,20 +58,20 @@ value-alike e k = ap (λ (x : Outcome). value_of x k) e
 
 shows : (m : Message) → numbers_say (row_for m) ≡ message_said m → row_ten (row_for m) ≡ ten_said (message_said m)
 unfolding row_ten ten_said ten_of names_of under message_row columns with_all with_held numbers_say held_in
-shows (ReceiveRequest h user source Absent) e = refl
-shows (ReceiveRequest h user source (Given n)) e = let i : number_held n ≡ given n = value-alike e 2 in rw i
-shows (ReceiveResponse h Granted Absent) e = refl
-shows (ReceiveResponse h Granted (Given n)) e = let i : number_held n ≡ given n = value-alike e 2 in rw i
-shows (ReceiveResponse h (Rejected cause) Absent) e = let c : number_held cause ≡ given cause = value-alike e 1 in rw c
-shows (ReceiveResponse h (Rejected cause) (Given n)) e =
+shows (ReceiveRequest h user source None) e = refl
+shows (ReceiveRequest h user source (Some n)) e = let i : number_held n ≡ given n = value-alike e 2 in rw i
+shows (ReceiveResponse h Granted None) e = refl
+shows (ReceiveResponse h Granted (Some n)) e = let i : number_held n ≡ given n = value-alike e 2 in rw i
+shows (ReceiveResponse h (Rejected cause) None) e = let c : number_held cause ≡ given cause = value-alike e 1 in rw c
+shows (ReceiveResponse h (Rejected cause) (Some n)) e =
     let c : number_held cause ≡ given cause = value-alike e 1 in
     let i : number_held n ≡ given n = value-alike e 2 in
     rw (c, i)
-shows (EndRequest h transmitter Absent) e = refl
-shows (EndRequest h transmitter (Given n)) e = let i : number_held n ≡ given n = value-alike e 1 in rw i
+shows (EndRequest h transmitter None) e = refl
+shows (EndRequest h transmitter (Some n)) e = let i : number_held n ≡ given n = value-alike e 1 in rw i
 shows (EndResponse h transmitter) e = refl
-shows (TransmissionEnd h cause Absent) e = let c : number_held cause ≡ given cause = value-alike e 0 in rw c
-shows (TransmissionEnd h cause (Given n)) e =
+shows (TransmissionEnd h cause None) e = let c : number_held cause ≡ given cause = value-alike e 0 in rw c
+shows (TransmissionEnd h cause (Some n)) e =
     let c : number_held cause ≡ given cause = value-alike e 0 in
     let i : number_held n ≡ given n = value-alike e 1 in
     rw (c, i)
@@ -85,41 +84,24 @@ shows (Ack h source about) e =
 pub row-ten : (m : Message) (row : List ℕ) → row_of≡ m row → row_ten row ≡ ten_said (message_said m)
 row-ten m row e = rw e.0 (shows m (rw e.0 at (numbers_say_lem row m e.1)))
 
--- ---- one of the ten
+-- ---- the ten one by one
 
-module _ (row : List ℕ) (n : length row ≡ 12) where
-  abbrev front : List Held
-  front = map given (take 3 row)
+module _ (row : List ℕ) where
+  -- n elements from the k-th on
+  abbrev from : ℕ → ℕ → List ℕ
+  from k zero = []
+  from k (suc n) = get_or row k 0 ∷ from (suc k) n
 
-  front_length : length front ≡ 3
-  front_length = rw (length-map, length-take) (omega arith)
+  -- they are all that stand there
+  from-all : (n k : ℕ) → length row ≡ k + n → drop k row ≡ from k n
+  from-all zero k e = drop_of_length-le row (omega arith)
+  from-all (suc n) k e = drop-cons row k 0 (omega arith) ∙ ap (get_or row k 0 ∷◌) (from-all n (suc k) (omega arith))
 
-  -- the first three
-  pub ten-front : (k : ℕ) → k < 3 → get_or (row_ten row) k absent ≡ given (get_or row k 0)
+  pub ten-listed : length row ≡ 12
+      → row_ten row
+      ≡ given (get_or row 0 0) ∷ given (get_or row 1 0) ∷ given (get_or row 2 0)
+      ∷ name_held (eqb (get_or row 0 0) 1) (get_or row 3 0) (get_or row 4 0) ∷ name_held (names_one (get_or row 0 0)) (get_or row 5 0) (get_or row 6 0)
+      ∷ number_held (get_or row 7 0) ∷ number_held (get_or row 8 0) ∷ number_held (get_or row 9 0) ∷ number_held (get_or row 10 0)
+      ∷ number_held (get_or row 11 0) ∷ []
   unfolding row_ten
-  ten-front k h =
-      get_or-append front _ absent k (omega (arith, front_length))
-      ∙ get_or_default front k absent (given 0) (omega (arith, front_length))
-      ∙ get_or-map given (take 3 row) k 0
-      ∙ ap given (get_or-take 3 row k 0 h)
-
-  -- the two names
-  abbrev names : List Held
-  names =
-      name_held (eqb (get_or row 0 0) 1) (get_or row 3 0) (get_or row 4 0) ∷ name_held (names_one (get_or row 0 0)) (get_or row 5 0) (get_or row 6 0) ∷ []
-
-  pub ten-behind : (k j : ℕ) → k ≡ 3 + j → get_or (row_ten row) k absent ≡ get_or (names ++ map number_held (drop 7 row)) j absent
-  unfolding row_ten
-  ten-behind k j e =
-      let at : k ≡ length front + j = omega (arith, front_length) in
-      ap (λ (i : ℕ). get_or (row_ten row) i absent) at ∙ get_or-append-add front (names ++ map number_held (drop 7 row)) j absent
-
-  -- the numbers behind those
-  pub ten-number : (k : ℕ) → 5 ≤ k → k < 10 → get_or (row_ten row) k absent ≡ number_held (get_or row (k + 2) 0)
-  ten-number k l h =
-      let j = k - 5 in
-      let at : 7 + j ≡ k + 2 = omega arith in
-      ten-behind k (2 + j) (omega arith)
-      ∙ get_or-append-add names (map number_held (drop 7 row)) j absent
-      ∙ get_or-map number_held (drop 7 row) j no_number
-      ∙ ap number_held (get_or-drop 7 row j no_number ∙ get_or_default row (7 + j) no_number 0 (omega arith) ∙ ap (λ (i : ℕ). get_or row i 0) at)
+  ten-listed n = rw (ap (take 3) (from-all 12 0 n), from-all 5 7 n)

@@ -1,18 +1,25 @@
 -- Laws of the byte of receivers: of each bit after one was set or cleared, and of the number of ones. They go by halving: the lowest bit of a
 -- number is its rest by 2, and the others are the bits of its half. Assumes nothing.
+use Rattle.std.specs.Prelude.{Option, Some, None, SomeIff, unwrap_or}
 use mathlib.Core.Path.{◌≡◌, refl, sym, ◌∙◌}
 use mathlib.Core.Logic.{⊎_elim}
 use mathlib.Core.Bool.{Bool, true, false, not, ◌&&◌, ◌||◌, and-true, and-false}
 use Prim.Native.Nat.{ℕ, zero, suc, ◌+◌, ◌-◌, ◌*◌, ◌/◌, ◌%◌, ◌^◌, ◌≤◌, ◌<◌}
-use native.Mathlib.Nat.{one-mul, pow-suc, pow-succ', zero-div, div-one, div-div-eq-div-mul, le-div_iff_mul-le, le_of_suc-le-suc, not-suc-le-zero}
+use native.Mathlib.Nat.{one-mul, pow-suc, pow-succ', zero-div, div-eq_of_lt, div-one, div-div-eq-div-mul, le-div_iff_mul-le, le_of_suc-le-suc, not-suc-le-zero}
 use native.Mathlib.Omega.{arith}
 use lib.Arith.{bin_ind}
 use lib.Pow.{pow_pos, pow_mono}
 use lib.Count.{ones, ones_step}
-use lib.Dec.{T, eqb, ltb→lt, lt→ltb, eqb→eq, eqb-zero-suc, eqb-suc-zero, eqb-suc-suc}
+use lib.Dec.{T, eqb, ltb→lt, lt→ltb, eqb→eq, eqb_refl, eqb-zero-suc, eqb-suc-zero, eqb-suc-suc}
+use mir.Val.{bits}
 use borrow.Author.Tests.{eqb-false}
+use Rattle.std.proofs.Common.{w8, bit_and, bit_or}
+use Rattle.std.proofs.lemmas.Bool.Decides.{nat_tests}
+use Rattle.std.proofs.lemmas.Nat.{and_le_l}
+use Rattle.std.proofs.lemmas.Nat.Bits.{same_from_bits, same_from_bits_below, bit_at-lt, bit_at_set_same, bit_at_set_other, bit_at_clear_same, bit_at_clear_other}
+use Rattle.std.specs.Int.{bit_at, bit_not}
 use Rattle.octets.specs.Choice.{pick}
-use Rattle.octets.proofs.Choice.{le-or-lt, T_true, T_false, T-or-cases, pick-cases}
+use Rattle.octets.proofs.Choice.{le-or-lt, true-T, false-T, T_false, T-or-cases, pick-cases}
 use Rattle.streams.specs.Record.{watches, set_bit, clear_bit}
 use Rattle.streams.specs.Claims.{SetsOne, ClearsOne, OnSheetExactly}
 
@@ -129,16 +136,6 @@ watches-clear b r p = watches-put clear_bit 0 (omega arith) clear_lowest clear_o
     by true = sym (and-false (watches b p))
     by false = sym (and-true (watches b p))
 
--- a bit that was not set is added
-pub set-adds : (b r : ℕ) → watches b r ≡ false → set_bit b r ≡ b + 2 ^ r
-unfolding set_bit
-set-adds b r e = rw e
-
--- one that was set is taken away
-pub clear-takes : (b r : ℕ) → T (watches b r) → clear_bit b r ≡ b - 2 ^ r
-unfolding clear_bit
-clear-takes b r t = rw (T_true (watches b r) t)
-
 -- to clear a bit makes no number greater
 pub clear-le : (b r : ℕ) → clear_bit b r ≤ b
 unfolding clear_bit
@@ -149,10 +146,6 @@ clear-le b r = pick-cases (λ x. x ≤ b) (watches b r) (b - 2 ^ r) b (λ t. ome
 -- a bit that is set is one of n
 pub bit_below : (n b r : ℕ) → b < 2 ^ n → T (watches b r) → r < n
 bit_below n b r h t = ⊎_elim (λ l. absurd (omega (arith, bit_le b r t, pow_mono l))) (λ l. l) (le-or-lt n r)
-
--- so no other is set
-pub watches-past : (n b r : ℕ) → b < 2 ^ n → n ≤ r → watches b r ≡ false
-watches-past n b r h l = T_false (watches b r) (λ t. omega (arith, bit_below n b r h t))
 
 -- each bit that is set is one of n
 abbrev BitsBelow : ℕ → ℕ → Type 0
@@ -187,3 +180,40 @@ ones-set b r e = omega (arith, ones-put set_bit 1 (omega arith) set-lowest set_o
 -- a bit less
 pub ones_clear : (b r : ℕ) → T (watches b r) → suc (ones (clear_bit b r)) ≡ ones b
 ones_clear b r t = omega (arith, ones-put clear_bit 0 (omega arith) clear_lowest clear_other b r, bit_one b r t)
+
+-- ---- a byte as the processor shifts and masks it
+
+-- shifted, also past its eight bits
+pub shifted : (b r : ℕ) (o : Option ℕ) → b < 256 → SomeIff o (r < 8) (b / 2 ^ r) → unwrap_or o 0 ≡ b / 2 ^ r
+shifted b r (Some x) small e = e.1
+shifted b r None small e = sym (div-eq_of_lt (omega (arith, pow_mono {i = 8} {j = r} (omega (arith, e)))))
+
+-- digits are the same where both or neither is 1
+digits_same : (x y : ℕ) → x < 2 → y < 2 → eqb x 1 ≡ eqb y 1 → x ≡ y
+digits_same x y a b e = grind (arith, nat_tests)
+
+-- bit p after bit r was set by a disjunction ..
+watches-or : (b r p : ℕ) → r < 8 → (c : Bool) → eqb p r ≡ c → watches (bit_or b (1 * 2 ^ r % 2 ^ bits w8)) p ≡ (c || watches b p)
+unfolding watches
+watches-or b r p h true e = rw (eqb→eq p r (true-T _ e), bit_at_set_same w8 b r h)
+watches-or b r p h false e = rw (bit_at_set_other w8 b r h p (λ s. absurd (false-T (eqb p r) e (rw s (eqb_refl r)))))
+
+pub or_sets : (b r : ℕ) → r < 8 → bit_or b (1 * 2 ^ r % 2 ^ bits w8) ≡ set_bit b r
+unfolding watches
+or_sets b r h =
+    same_from_bits (bit_or b (1 * 2 ^ r % 2 ^ bits w8)) (set_bit b r)
+    (λ p. digits_same (bit_at (bit_or b (1 * 2 ^ r % 2 ^ bits w8)) p) (bit_at (set_bit b r) p) (bit_at-lt _ p) (bit_at-lt _ p)
+    (watches-or b r p h (eqb p r) refl ∙ sym (watches-set b r p)))
+
+-- .. and after it was cleared by a mask
+watches-and : (b r p : ℕ) → r < 8 → p < 8 → (c : Bool) → eqb p r ≡ c → watches (bit_and b (bit_not w8 (1 * 2 ^ r % 2 ^ bits w8))) p ≡ (watches b p && not c)
+unfolding watches
+watches-and b r p h l true e = rw (eqb→eq p r (true-T _ e), bit_at_clear_same w8 b r h, and-false)
+watches-and b r p h l false e = rw (bit_at_clear_other w8 b r h p l (λ s. absurd (false-T (eqb p r) e (rw s (eqb_refl r)))), and-true)
+
+pub and_clears : (b r : ℕ) → b < 256 → r < 8 → bit_and b (bit_not w8 (1 * 2 ^ r % 2 ^ bits w8)) ≡ clear_bit b r
+unfolding watches
+and_clears b r small h =
+    same_from_bits_below 8 (bit_and b (bit_not w8 (1 * 2 ^ r % 2 ^ bits w8))) (clear_bit b r) (omega (arith, and_le_l b (bit_not w8 (1 * 2 ^ r % 2 ^ bits w8)))) (omega (arith, clear-le b r))
+    (λ p l. digits_same (bit_at (bit_and b (bit_not w8 (1 * 2 ^ r % 2 ^ bits w8))) p) (bit_at (clear_bit b r) p) (bit_at-lt _ p) (bit_at-lt _ p)
+    (watches-and b r p h l (eqb p r) refl ∙ sym (watches-clear b r p)))

@@ -1,7 +1,8 @@
 -- Laws of seats and of records: a seat on the sheet has a bit; two records are the same exactly if they are equal; what a legal one has.
 -- Assumes nothing.
 use mathlib.Core.Path.{◌≡◌, refl, sym, ap, ap₂, ◌∙◌}
-use mathlib.Core.Bool.{false}
+use mathlib.Core.Bool.{false, ◌&&◌}
+use denote.Enum.Bare.{sameb}
 use Prim.Native.Nat.{ℕ, ◌^◌, ◌<◌, ◌≤◌}
 use native.Mathlib.Omega.{arith}
 use lib.Pow.{pow_pos}
@@ -10,6 +11,7 @@ use Rattle.octets.specs.Choice.{pick}
 use Rattle.octets.proofs.Choice.{T_false, T_and, T-and-left, T-and-right}
 use Rattle.streams.specs.declared.Phase.{Phase}
 use Rattle.streams.specs.declared.Phase.TheVariants.{Free, Idle, Watched, Ending}
+use Rattle.streams.specs.contracts.Phase.{the_type}
 use Rattle.streams.specs.declared.Record.{Record}
 use Rattle.streams.specs.declared.stream.Rules.{Rules}
 use Rattle.streams.specs.Record.{on_sheet, free, idle, ending, phase_number, is, same_record, good_receivers, legal_in, legal}
@@ -72,6 +74,21 @@ pub legal-below : (q : Rules) (s : ℕ) (x : Record) → T (legal q s x) → x.r
 unfolding legal
 legal-below q s x t = legal-in-below x.phase q s x t
 
--- two records are the same exactly if they are equal
+-- the derived `==` says whether they are the same ..
+phases-said : (p q : Phase) → sameb the_type p q ≡ eqb (phase_number p) (phase_number q)
+phases-said Free Free = refl
+phases-said Free q = refl
+phases-said Idle Idle = refl
+phases-said Idle q = refl
+phases-said Watched Watched = refl
+phases-said Watched q = refl
+phases-said Ending Ending = refl
+phases-said Ending q = refl
+
+pub same-said : (x y : Record) → (sameb the_type x.phase y.phase && eqb x.receivers y.receivers) ≡ same_record x y
+unfolding same_record
+same-said x y = rw (phases-said x.phase y.phase)
+
+-- .. and two records are the same exactly if they are equal
 pub same_exactly_lem : SameExactly
 same_exactly_lem x y = (same-equal x y, equal-same x y)

@@ -2,7 +2,8 @@
 -- break the field there is wrong. In the inner loop the octets still ahead decide on the padding. Assumes nothing.
 use mathlib.Core.Path.{sym, ◌∙◌}
 use native.Mathlib.Omega.{arith}
-use Rattle.fields.proofs.Laws.Walk.{next-after, next-size, wrong-id, wrong-next, right_room, padding-all, padding-zero, padding-other, padding-none, stop_from-right, stop_from-wrong}
+use Rattle.fields.specs.Walk.{to_word}
+use Rattle.fields.proofs.Laws.Walk.{next-after, next-size, wrong-id, wrong-next, right_room, zeros-zero, zeros-other, zeros-none, padding-right, padding-wrong, stop_from-right, stop_from-wrong}
 use Rattle.fields.proofs.walk.walk.Goals as goal
 
 pub returns-then-packet-lt4 : goal.returns-then-packet-lt4
@@ -11,15 +12,17 @@ returns-then-packet-lt4 c =
     let from = c.args.from in
     sym (stop_from-wrong p from (right_room p from (omega arith)))
 
-pub loop-i-init : goal.loop-i-init
-loop-i-init c = padding-all c.args.packet.now c.walk.at
+pub slice_bounds-octet-items-count : goal.slice_bounds-octet-items-count
+unfolding to_word
+slice_bounds-octet-items-count c = omega (arith, c.size_of-size.ensures)
 
-pub loop-i-preserved : goal.loop-i-preserved
-loop-i-preserved c =
-    let p = c.args.packet.now in
-    let at = c.walk.at in
-    let next = next-size p at c.size_of-size.result c.size_of-size.ensures in
-    padding-zero p at c.loop-i.i (omega arith) c.loop-i.invariant (omega arith) c.if-packet-i-ne0.false
+pub slice_bounds-octet-items-start : goal.slice_bounds-octet-items-start
+unfolding to_word
+slice_bounds-octet-items-start c = omega (arith, c.size_of-size.ensures)
+
+pub loop-octet-preserved : goal.loop-octet-preserved
+loop-octet-preserved c =
+    sym (zeros-zero _ c.loop-octet.octet-index c.loop-octet-test.true c.if-octet-ne0.false) ∙ c.loop-octet.invariant
 
 pub walk-smaller : goal.walk-smaller
 walk-smaller c =
@@ -32,7 +35,8 @@ walk-preserved c =
     let p = c.args.packet.now in
     let at = c.walk.at in
     let next = next-size p at c.size_of-size.result c.size_of-size.ensures in
-    let right = padding-none p at c.loop-i.i (omega arith) c.loop-i.invariant (omega arith) (omega arith) in
+    let zero = sym c.loop-octet.invariant ∙ zeros-none _ c.loop-octet.octet-index c.loop-octet-test.false in
+    let right = padding-right p at c.size_of-size.result next (omega arith) (omega arith) zero in
     rw next (sym (stop_from-right p at right) ∙ c.walk.invariant)
 
 pub returns-after-walk : goal.returns-after-walk
@@ -54,9 +58,10 @@ returns-then-packet-at c =
     let next = next-size p at c.size_of-size.result c.size_of-size.ensures in
     sym (stop_from-wrong p at (wrong-next p at (omega arith))) ∙ c.walk.invariant
 
-pub returns-then-packet-i-ne0 : goal.returns-then-packet-i-ne0
-returns-then-packet-i-ne0 c =
+pub returns-then-octet-ne0 : goal.returns-then-octet-ne0
+returns-then-octet-ne0 c =
     let p = c.args.packet.now in
     let at = c.walk.at in
     let next = next-size p at c.size_of-size.result c.size_of-size.ensures in
-    sym (stop_from-wrong p at (padding-other p at c.loop-i.i (omega arith) c.loop-i.invariant (omega arith) c.if-packet-i-ne0.true)) ∙ c.walk.invariant
+    let other = zeros-other _ c.loop-octet.octet-index c.loop-octet-test.true c.if-octet-ne0.true in
+    sym (stop_from-wrong p at (padding-wrong p at c.size_of-size.result next (sym c.loop-octet.invariant ∙ other))) ∙ c.walk.invariant

@@ -1,38 +1,11 @@
 -- `kinds::judge::fits` meets its contract: form by form, since a right field's value ends in the packet (`right-inside`). Assumes nothing.
 use Prim.Native.Nat.{◌+◌}
 use native.Mathlib.Nat.{add_assoc, add-sub_cancel_left}
-use native.Mathlib.Omega.{arith}
 use borrow.Author.Tests.{eq-eqb, ne_eqb}
 use Rattle.octets.proofs.Big.{big_at-two}
 use Rattle.fields.specs.Walk.{field_at, value_of}
-use Rattle.fields.proofs.Laws.Walk.{right-inside}
 use Rattle.kinds.specs.Judge.{fits, number_at}
 use Rattle.kinds.proofs.judge.fits.Goals as goal
-
--- the field is in the packet, and so is its value
-pub overflow_add-len : goal.overflow_add-len
-overflow_add-len c = omega (arith, right-inside c.args.packet.now c.args.at c.requires)
-
-pub bounds-packet-at : goal.bounds-packet-at
-bounds-packet-at c = omega (arith, right-inside c.args.packet.now c.args.at c.requires)
-
-pub overflow_add-value : goal.overflow_add-value
-overflow_add-value c = omega (arith, right-inside c.args.packet.now c.args.at c.requires)
-
-pub overflow_add-value-in-UserId : goal.overflow_add-value-in-UserId
-overflow_add-value-in-UserId c = omega (arith, right-inside c.args.packet.now c.args.at c.requires)
-
-pub slice_bounds-is_user_id-end : goal.slice_bounds-is_user_id-end
-slice_bounds-is_user_id-end c = omega (arith, right-inside c.args.packet.now c.args.at c.requires)
-
-pub bounds-packet-value : goal.bounds-packet-value
-bounds-packet-value c = omega (arith, right-inside c.args.packet.now c.args.at c.requires)
-
-pub bounds-packet-value-then-len-eq2 : goal.bounds-packet-value-then-len-eq2
-bounds-packet-value-then-len-eq2 c = omega (arith, right-inside c.args.packet.now c.args.at c.requires)
-
-pub bounds-packet-value-then-len-eq2-2 : goal.bounds-packet-value-then-len-eq2-2
-bounds-packet-value-then-len-eq2-2 c = omega (arith, right-inside c.args.packet.now c.args.at c.requires)
 
 pub returns-in-UserId : goal.returns-in-UserId
 unfolding fits field_at value_of

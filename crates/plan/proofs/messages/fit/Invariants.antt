@@ -1,13 +1,11 @@
--- `plan::messages::fit` meets its contract. The invariant: the numbers fit just if those passed do and those from line k on.
+-- `plan::messages::fit` meets its contract. The invariant: the numbers fit just if those passed do and those behind them. Assumes nothing.
 use mathlib.Core.Path.{◌≡◌}
 use mathlib.Core.Bool.{◌&&◌}
-use Prim.Native.Nat.{◌-◌, ◌≤◌}
+use lib.ListN.{drop}
+use Rattle.octets.specs.Choice.{every}
 use Rattle.plan.specs.Packet.{fitting}
-use Rattle.plan.proofs.Laws.Fitting.{short_from}
+use Rattle.plan.proofs.Laws.Fitting.{short}
 use Rattle.plan.proofs.messages.fit.Given as goal
 
-abbrev pub invariant-loop-k : goal.invariant-loop-k
-invariant-loop-k l = (l.k ≤ 9) × (fitting l.numbers ≡ (l.good && short_from l.numbers l.k))
-
-abbrev pub decreases-loop-k : goal.decreases-loop-k
-decreases-loop-k l = 9 - l.k
+abbrev pub invariant-loop-number : goal.invariant-loop-number
+invariant-loop-number l = fitting l.fn.numbers ≡ (l.good && every short (drop l.number-index l.number-items))

@@ -5,4 +5,4 @@ use Rattle.plan.proofs.sizes.part_size.Goals as goal
 
 pub returns-in-Named : goal.returns-in-Named
 unfolding to_word
-returns-in-Named c = rw c.in-Named.is (c.field_size.ensures, omega (arith, c.field_size.ensures))
+returns-in-Named c = rw c.in-Named.is (c.size_of.ensures, omega (arith, c.size_of.ensures))

@@ -19,7 +19,7 @@ returns-in-GrantedAgain c = rw c.in-GrantedAgain.is (own_row GrantedAgain tt)
 
 pub returns-in-Rejected : goal.returns-in-Rejected
 unfolding timers_sum
-returns-in-Rejected c = rw c.in-Rejected.is (own_row (Rejected c.in-Rejected.cause) (omega arith))
+returns-in-Rejected c = rw (c.in-Rejected.is, c.from.ensures) (own_row (Rejected c.in-Rejected.cause) (omega arith))
 
 pub returns-in-Ended : goal.returns-in-Ended
 unfolding timers_sum
@@ -35,7 +35,7 @@ returns-in-Opened c = rw c.in-Opened.is (own_row Opened tt)
 
 pub returns-in-EndRequested : goal.returns-in-EndRequested
 unfolding timers_sum
-returns-in-EndRequested c = rw c.in-EndRequested.is (own_row (EndRequested c.in-EndRequested.cause) (omega arith))
+returns-in-EndRequested c = rw (c.in-EndRequested.is, c.from-in-EndRequested.ensures) (own_row (EndRequested c.in-EndRequested.cause) (omega arith))
 
 pub returns-in-Freed : goal.returns-in-Freed
 unfolding timers_sum

@@ -1,37 +1,50 @@
--- `rows::attempt::attempt_in` meets its contract: the first five numbers and the answer behind them. Assumes nothing.
+-- `rows::attempt::attempt_in` meets its contract: part by part. Assumes nothing.
 use mathlib.Core.Path.{◌≡◌, sym, ap, ◌∙◌}
 use mathlib.Core.List.{List}
 use Prim.Native.Nat.{ℕ, ◌-◌}
+use Rattle.std.specs.Prelude.{Option}
 use lib.ListN.{length, take, drop}
-use Rattle.octets.proofs.Choice.{true-T}
+use Rattle.streams.specs.declared.Answer.{Answer}
 use Rattle.rows.specs.Rows.{answer_in}
-use Rattle.rows.specs.Held.{answering_said}
-use Rattle.rows.specs.declared.answer.Answering.{Answering}
-use Rattle.rows.proofs.Laws.Attempts.{part_end, unanswered, attempt-miscounted, attempt-known, attempt-held, attempt-unheld}
+use Rattle.rows.specs.Held.{given}
+use Rattle.rows.proofs.Laws.Held.{given_some, given_none, octet, no_octet}
+use Rattle.rows.proofs.Laws.Attempts.{part_end, attempt_uncounted, stream-unheld, seen-unheld, wanted-unheld, answer-unheld, attempt-made}
 use Rattle.rows.proofs.attempt.attempt_in.Goals as goal
 
-pub returns-then-row-ne-ATTEMPT : goal.returns-then-row-ne-ATTEMPT
-returns-then-row-ne-ATTEMPT c = sym (attempt-miscounted c.args.row.now c.if-row-ne-ATTEMPT.true)
+pub returns-in_default : goal.returns-in_default
+returns-in_default c = sym (attempt_uncounted c.args.row.now c.in_default.len_below)
 
-pub returns-then-not-are_octets : goal.returns-then-not-are_octets
-returns-then-not-are_octets c = sym (attempt-unheld c.args.row.now (sym c.are_octets.ensures ∙ c.if-not-are_octets.true))
+pub returns-in_err-ok : goal.returns-in_err-ok
+returns-in_err-ok c =
+    rw c.from_residual.ensures (sym (stream-unheld c.args.row.now (no_octet _ _ c.try_from.ensures (sym c.ok.ensures.value ∙ c.in_err-ok.was))))
 
-pub attempt_with-requires : goal.attempt_with-requires
-attempt_with-requires c = (c.if-row-ne-ATTEMPT.false, true-T _ (sym c.are_octets.ensures ∙ c.if-not-are_octets.false))
+pub returns-in_err-record_in : goal.returns-in_err-record_in
+returns-in_err-record_in c =
+    let stream = octet _ _ _ c.try_from.ensures (sym c.ok.ensures.value ∙ c.in_ok-ok.was) in
+    let seen = given_none _ (sym c.record_in.ensures ∙ c.in_err-record_in.was) in
+    rw c.from_residual-in_err-record_in.ensures (sym (seen-unheld c.args.row.now stream.0 seen))
+
+pub returns-in_err-record_in-2 : goal.returns-in_err-record_in-2
+returns-in_err-record_in-2 c =
+    let stream = octet _ _ _ c.try_from.ensures (sym c.ok.ensures.value ∙ c.in_ok-ok.was) in
+    let wanted = given_none _ (sym c.record_in-2.ensures ∙ c.in_err-record_in-2.was) in
+    rw c.from_residual-in_err-record_in-2.ensures (sym (wanted-unheld c.args.row.now stream.0 wanted))
 
 -- the answer is looked for in what is left of the row behind the five
-answer : (row : List ℕ) (found : Answering) → answering_said found ≡ answer_in (take (length row - 5) (drop 5 row))
-    → answer_in (drop 5 row) ≡ answering_said found
-answer row found e = ap answer_in (sym (part_end 5 row)) ∙ sym e
+answer : (row : List ℕ) (found : Option Answer) → found ≡ given (answer_in (take (length row - 5) (drop 5 row)))
+    → given (answer_in (drop 5 row)) ≡ found
+answer row found e = ap (λ (l : List ℕ). given (answer_in l)) (sym (part_end 5 row)) ∙ sym e
 
-pub returns-in-Answer : goal.returns-in-Answer
-returns-in-Answer c =
-    let row = c.args.row.now in
-    let right = true-T _ (sym c.are_octets.ensures ∙ c.if-not-are_octets.false) in
-    let answered = answer row c.answer_in.result c.answer_in.ensures ∙ ap answering_said c.in-Answer.is in
-    sym (attempt-held row right ∙ attempt-known row _ c.attempt_with.result c.attempt_with.ensures answered)
+pub returns-in_err-answer_in : goal.returns-in_err-answer_in
+returns-in_err-answer_in c =
+    let stream = octet _ _ _ c.try_from.ensures (sym c.ok.ensures.value ∙ c.in_ok-ok.was) in
+    let given = given_none _ (answer c.args.row.now _ c.answer_in.ensures ∙ c.in_err-answer_in.was) in
+    rw c.from_residual-in_err-answer_in.ensures (sym (answer-unheld c.args.row.now stream.0 given))
 
-pub returns-in-Nothing : goal.returns-in-Nothing
-returns-in-Nothing c =
-    let row = c.args.row.now in
-    sym (unanswered row (answer row c.answer_in.result c.answer_in.ensures ∙ ap answering_said c.in-Nothing.is))
+pub returns : goal.returns
+returns c =
+    let stream = octet _ _ _ c.try_from.ensures (sym c.ok.ensures.value ∙ c.in_ok-ok.was) in
+    let seen = given_some _ _ (sym c.record_in.ensures ∙ c.in_ok-record_in.was) in
+    let wanted = given_some _ _ (sym c.record_in-2.ensures ∙ c.in_ok-record_in-2.was) in
+    let given = given_some _ _ (answer c.args.row.now _ c.answer_in.ensures ∙ c.in_ok-answer_in.was) in
+    attempt-made c.args.row.now stream.0 _ _ _ _ stream.1 seen wanted given

@@ -1,34 +1,19 @@
--- `rows::records::are_records` meets its contract. The invariant: the octets before the place are records, so all are where those from it on are.
--- Assumes nothing.
-use mathlib.Core.Path.{refl, sym, ◌∙◌}
-use Prim.Native.Nat.{◌≤◌}
-use native.Mathlib.Omega.{arith}
-use lib.ListN.{length, drop_of_length-le}
-use Rattle.rows.specs.Rows.{records_from}
-use Rattle.rows.proofs.Laws.Records.{records-counted, records-other, from_step}
+-- `rows::records::are_records` meets its contract: of sixteen octets each chunk of two is judged. Assumes nothing.
+use mathlib.Core.Path.{◌∙◌}
+use borrow.Author.Rules.{rules}
+use borrow.Author.Tests.{tests, ne_eqb}
+use Rattle.std.proofs.lemmas.Iterator.Search.{all_from_yields_List}
+use Rattle.rows.specs.Rows.{is_some, records_in}
+use Rattle.rows.proofs.Laws.Records.{records-counted, records_other}
+use Rattle.rows.proofs.Laws.Chunks.{yields-pairs, told-some, all-pairs}
 use Rattle.rows.proofs.records.are_records.Goals as goal
 
-pub returns-then-octets-ne-RECORDS : goal.returns-then-octets-ne-RECORDS
-returns-then-octets-ne-RECORDS c = rw (records-other 8 _ c.if-octets-ne-RECORDS.true)
-
-pub loop-at-init : goal.loop-at-init
-loop-at-init c = (omega arith, refl, refl)
-
-pub returns-then-not-is_phase : goal.returns-then-not-is_phase
-returns-then-not-is_phase c =
+pub returns-then-octets-eq-RECORDS : goal.returns-then-octets-eq-RECORDS
+returns-then-octets-eq-RECORDS c =
     let octets = c.args.octets.now in
-    let step = from_step octets c.loop-at.at (omega arith) in
-    rw (records-counted 8 octets c.if-octets-ne-RECORDS.false, c.loop-at.invariant.2, step, sym c.is_phase.ensures ∙ c.if-not-is_phase.true)
+    let chunks = yields-pairs octets _ c.chunks.ensures.rest c.chunks.ensures.size in
+    let all = all_from_yields_List (λ own. is_some (records_in 1 own)) _ _ _ c.all.ensures.ran chunks (λ x b q k. search (rules, tests, told-some)) in
+    rw (records-counted 8 octets c.if-octets-eq-RECORDS.true) (all ∙ all-pairs octets)
 
-pub loop-at-preserved : goal.loop-at-preserved
-loop-at-preserved c =
-    let octets = c.args.octets.now in
-    let step = from_step octets c.loop-at.at (omega arith) in
-    (omega arith, omega arith, c.loop-at.invariant.2 ∙ (step ∙ rw (sym c.is_phase.ensures ∙ c.if-not-is_phase.false)))
-
-pub returns : goal.returns
-unfolding records_from
-returns c =
-    let octets = c.args.octets.now in
-    let end : length octets ≤ c.loop-at.at = omega arith in
-    rw (records-counted 8 octets c.if-octets-ne-RECORDS.false, c.loop-at.invariant.2, drop_of_length-le octets end)
+pub returns-else-octets-eq-RECORDS : goal.returns-else-octets-eq-RECORDS
+returns-else-octets-eq-RECORDS c = rw (ne_eqb _ _ c.if-octets-eq-RECORDS.false, records_other 8 _ c.if-octets-eq-RECORDS.false)

@@ -1,31 +1,18 @@
--- `seats::find::by_ssrc` meets its contract. The invariant: no seat before s has the SSRC.
--- Assumes nothing.
-use mathlib.Core.Path.{◌≡◌, sym}
-use borrow.Author.Rules.{rules}
-use borrow.Author.Tests.{eq-eqb}
-use native.Mathlib.Omega.{arith}
-use lib.ListN.{length}
-use lib.Dec.{eqb}
+use mathlib.Core.Path.{◌≡◌}
+use Rattle.std.proofs.Common.{rules, tests, ℕ, Bool, eqb}
+use Rattle.std.proofs.lemmas.Iterator.{YieldsList-from_slice, YieldsList-from_take}
+use Rattle.std.proofs.lemmas.Iterator.Consumers.{YieldsList-at}
+use Rattle.std.proofs.lemmas.Iterator.Search.{position_from_yields_List}
 use Rattle.sheet.specs.Find.{seat_of_ssrc}
-use Rattle.sheet.proofs.Laws.Rows.{first-seat-none, first-seat-some}
+use Rattle.seats.proofs.Laws.Words.{first-place}
 use Rattle.seats.proofs.find.by_ssrc.Goals as goal
-
-pub returns-then-seats-s : goal.returns-then-seats-s
-unfolding seat_of_ssrc
-returns-then-seats-s c =
-    let a = c.args in
-    sym (first-seat-none (λ x. eqb x a.ssrc) a.senders.ssrcs 0 a.senders.seats _ c.loop-s.invariant.1 (omega arith))
-
-pub returns-then-x-ssrc : goal.returns-then-x-ssrc
-unfolding seat_of_ssrc
-returns-then-x-ssrc c =
-    let a = c.args in
-    let n : length a.senders.ssrcs ≡ 8 = search rules in
-    sym (first-seat-some (λ x. eqb x a.ssrc) a.senders.ssrcs 0 a.senders.seats _ c.loop-s.invariant.1 (omega arith) (eq-eqb _ _ c.if-x-ssrc.true))
 
 pub returns : goal.returns
 unfolding seat_of_ssrc
 returns c =
-    let a = c.args in
-    let n : length a.senders.ssrcs ≡ 8 = search rules in
-    sym (first-seat-none (λ x. eqb x a.ssrc) a.senders.ssrcs 0 a.senders.seats _ c.loop-s.invariant.1 (omega arith))
+    let test : ℕ → Bool = λ x. eqb x c.args.ssrc in
+    let e = position_from_yields_List test _ _ c.position.result c.position.ensures.ran
+    (YieldsList-from_take c.args.senders.seats (YieldsList-at c.take.ensures.source (YieldsList-from_slice c.args.senders.ssrcs cc)) c.take.ensures.count)
+    (λ x b q k. search (rules, tests)) in
+    let m : c.map.result ≡ c.position.result = search rules in
+    rw (m, e) (first-place test _)

@@ -1,39 +1,21 @@
--- `seats::find::by_user` meets its contract. The invariant: no seat before s has the name.
--- Assumes nothing.
-use mathlib.Core.Path.{◌≡◌, sym, ◌∙◌}
-use mathlib.Core.Bool.{Bool}
-use mathlib.Core.List.{List, []}
-use Prim.Native.Nat.{ℕ}
-use borrow.Author.Rules.{rules}
-use native.Mathlib.Omega.{arith}
-use lib.ListN.{length}
+-- `seats::find::by_user` meets its contract: the position that std's words say. Assumes nothing.
+use mathlib.Core.Path.{◌≡◌}
+use Rattle.std.proofs.Common.{rules, tests, ℕ, Bool, List}
+use Rattle.std.proofs.lemmas.Iterator.{YieldsList-from_slice, YieldsList-from_take}
+use Rattle.std.proofs.lemmas.Iterator.Consumers.{YieldsList-at}
+use Rattle.std.proofs.lemmas.Iterator.Search.{position_from_yields_List}
 use Rattle.octets.specs.Choice.{same}
 use Rattle.sheet.specs.Value.{name_of}
 use Rattle.sheet.specs.Find.{seat_of_user}
-use Rattle.sheet.proofs.Laws.Rows.{first-seat-none, first-seat-some}
+use Rattle.seats.proofs.Laws.Words.{first-place}
 use Rattle.seats.proofs.find.by_user.Goals as goal
-
--- a row has the name
-abbrev has : List ℕ → List ℕ → Bool
-has name row = same (name_of row) name
-
-pub returns-then-seats-s : goal.returns-then-seats-s
-unfolding seat_of_user
-returns-then-seats-s c =
-    let a = c.args in
-    sym (first-seat-none (has a.name.now) a.users.now [] a.seats c.loop-s.s c.loop-s.invariant.1 (omega arith))
-
-pub returns-then-has_name : goal.returns-then-has_name
-unfolding seat_of_user
-returns-then-has_name c =
-    let a = c.args in
-    let n : length a.users.now ≡ 8 = search rules in
-    sym (first-seat-some (has a.name.now) a.users.now [] a.seats c.loop-s.s c.loop-s.invariant.1 (omega arith)
-    (sym c.has_name.ensures ∙ c.if-has_name.true))
 
 pub returns : goal.returns
 unfolding seat_of_user
 returns c =
-    let a = c.args in
-    let n : length a.users.now ≡ 8 = search rules in
-    sym (first-seat-none (has a.name.now) a.users.now [] a.seats c.loop-s.s c.loop-s.invariant.1 (omega arith))
+    let test : List ℕ → Bool = λ row. same (name_of row) c.args.name.now in
+    let e = position_from_yields_List test _ _ c.position.result c.position.ensures.ran
+    (YieldsList-from_take c.args.seats (YieldsList-at c.take.ensures.source (YieldsList-from_slice c.args.users.now cc)) c.take.ensures.count)
+    (λ x b q k. search (rules, tests)) in
+    let m : c.map.result ≡ c.position.result = search rules in
+    rw (m, e) (first-place test _)

@@ -1,26 +1,18 @@
--- `seats::user::name_length` meets its contract. The invariant: the name is i octets and those of the name from i on.
--- Assumes nothing.
-use mathlib.Core.Path.{ap}
-use Prim.Native.Nat.{ℕ}
-use mathlib.Core.List.{List}
-use native.Mathlib.Omega.{arith}
-use lib.ListN.{length}
-use Rattle.sheet.proofs.Laws.Rows.{name_of-zero, name_of-step, name_of-end}
+-- `seats::user::name_length` meets its contract. Assumes nothing.
+use mathlib.Core.Path.{ap, ◌∙◌}
+use Rattle.std.proofs.Common.{rules, tests, ℕ, length, Bool, not, eqb}
+use Rattle.std.proofs.lemmas.Iterator.{YieldsList-from_slice}
+use Rattle.std.proofs.lemmas.Iterator.Consumers.{YieldsList-at, count_from_yields_List}
+use Rattle.std.proofs.lemmas.Iterator.Search.{YieldsList-from_take_while}
+use Rattle.sheet.specs.Value.{name_of}
+use Rattle.seats.proofs.Laws.Words.{take-front}
 use Rattle.seats.proofs.user.name_length.Goals as goal
 
-pub returns-then-row-i-eq0 : goal.returns-then-row-i-eq0
-returns-then-row-i-eq0 c =
-    let in-loop = c.before.before in
-    let row : List ℕ = in-loop.args.row.now in
-    omega (arith, ap length (name_of-zero row in-loop.loop-i.i in-loop.loop-i-test.true c.if-row-i-eq0.true))
-
-pub loop-i-preserved : goal.loop-i-preserved
-loop-i-preserved c =
-    let in-loop = c.before.before in
-    let row : List ℕ = in-loop.args.row.now in
-    omega (arith, ap length (name_of-step row in-loop.loop-i.i in-loop.loop-i-test.true c.if-row-i-eq0.false))
-
 pub returns : goal.returns
+unfolding name_of
 returns c =
-    let row : List ℕ = c.args.row.now in
-    omega (arith, ap length (name_of-end row c.loop-i.i c.loop-i-test.false))
+    let test : ℕ → Bool = λ x. not (eqb x 0) in
+    count_from_yields_List _ _ c.count.ensures.ran
+    (YieldsList-from_take_while _ test (YieldsList-at c.take_while.ensures.source (YieldsList-from_slice c.args.row.now cc))
+    c.take_while.ensures.closure c.take_while.ensures.done (λ x b q k. search (rules, tests)))
+    ∙ ap length (take-front test c.args.row.now)

@@ -1,10 +1,9 @@
 -- `sheet::numbers::are_valid` meets its contract: the struct is a sheet's exactly if its lines are right (`valid-right`, `right_valid`).
 -- Assumes nothing.
-use mathlib.Core.Path.{◌≡◌, sym}
+use mathlib.Core.Path.{◌≡◌, sym, ◌∙◌}
 use mathlib.Core.Bool.{Bool, false}
 use mathlib.Core.List.{List}
 use Prim.Native.Nat.{ℕ}
-use borrow.Author.Rules.{rules}
 use native.Mathlib.Omega.{arith}
 use lib.ListN.{length}
 use lib.Dec.{T}
@@ -14,36 +13,45 @@ use Rattle.sheet.specs.Value.{sheet_in, valid_alone}
 use Rattle.sheet.proofs.Laws.Values.{other-not-valid}
 use Rattle.sheet.proofs.Laws.Lines.{Right, lines_in, valid-right, right_valid}
 use Rattle.sheet.proofs.numbers.are_valid.Goals as goal
+use Rattle.sheet.proofs.numbers.are_valid.Goals.{then-are_within, else-are_within}
 
 -- numbers of which a part of what is right does not hold
-wrong : (ns : List ℕ) → length ns ≡ 19 → (r : Bool) → r ≡ false → (Right ns (lines_in ns) → T r) → false ≡ valid_alone (sheet_in ns)
-wrong ns long r e f = sym (T_false (valid_alone (sheet_in ns)) (λ v. false-T r e (f (valid-right ns long v))))
+wrong : (ns : List ℕ) → length ns ≡ 19 → (r : Bool) → r ≡ false → (Right ns (lines_in ns) → T r) → r ≡ valid_alone (sheet_in ns)
+wrong ns long r e f = e ∙ sym (T_false (valid_alone (sheet_in ns)) (λ v. false-T r e (f (valid-right ns long v))))
 
-pub returns-then-numbers-ne-LINES : goal.returns-then-numbers-ne-LINES
-returns-then-numbers-ne-LINES c = sym (other-not-valid _ c.if-numbers-ne-LINES.true)
+pub returns-in_default : goal.returns-in_default
+returns-in_default c = sym (other-not-valid _ c.in_default.ensures.1)
 
-pub are_within-requires : goal.are_within-requires
-unfolding number_lines table
-are_within-requires c = search rules
-
-pub returns-then-not-are_within : goal.returns-then-not-are_within
-returns-then-not-are_within c =
-    wrong _ c.if-numbers-ne-LINES.false c.are_within.result c.if-not-are_within.true (λ r. c.are_within.ensures.1 r.bounds)
-
-pub returns-then-not-are_apart : goal.returns-then-not-are_apart
+pub returns-then-are_apart : goal.returns-then-are_apart
 unfolding number_lines seats_line table
-returns-then-not-are_apart c =
-    wrong _ c.if-numbers-ne-LINES.false c.are_apart.result c.if-not-are_apart.true (λ r. c.are_apart.ensures.1 r.apart-five)
+returns-then-are_apart c =
+    let ns = c.args.numbers.now in
+    let lent = c.in-Ok.ensures.1 in
+    let within = rw lent.same at c.are_within.ensures in
+    let seats = rw lent.same at c.are_apart-then-are_apart.ensures in
+    elim c.if-are_within.branch [
+      | then-are_within w ↦
+          let five = rw lent.same at w.are_apart.ensures in
+          test-eq c.are_apart-then-are_apart.result (valid_alone (sheet_in ns))
+          (λ t. right_valid ns lent.long (λ k. omega (arith, c.type_inv.numbers k))
+          (record {
+            bounds = within.0 (true-T c.are_within.result w.if-are_within.true);
+            apart-five = five.0 (true-T w.are_apart.result (sym w.value-is ∙ c.if-are_apart.true));
+            apart-seats = λ k h. seats.0 t k (omega arith);
+          }))
+          (λ v. seats.1 (λ k h. (valid-right ns lent.long v).apart-seats k (omega arith)))
+      | else-are_within w ↦
+          absurd (false-T c.are_within.result w.if-are_within.false (true-T c.are_within.result (sym w.value-is ∙ c.if-are_apart.true)))
+    ]
 
-pub returns : goal.returns
+pub returns-else-are_apart : goal.returns-else-are_apart
 unfolding number_lines seats_line table
-returns c =
-    let long = c.if-numbers-ne-LINES.false in
-    test-eq _ _
-    (λ t. right_valid _ long (λ k. omega (arith, c.type_inv.numbers k))
-    (record {
-      bounds = c.are_within.ensures.0 (true-T c.are_within.result c.if-not-are_within.false);
-      apart-five = c.are_apart.ensures.0 (true-T c.are_apart.result c.if-not-are_apart.false);
-      apart-seats = λ k h. c.are_apart-2.ensures.0 t k (omega arith);
-    }))
-    (λ v. c.are_apart-2.ensures.1 (λ k h. (valid-right _ long v).apart-seats k (omega arith)))
+returns-else-are_apart c =
+    let ns = c.args.numbers.now in
+    let lent = c.in-Ok.ensures.1 in
+    let within = rw lent.same at c.are_within.ensures in
+    wrong ns lent.long c.if-are_within.value c.if-are_apart.false
+    (λ r. elim c.if-are_within.branch [
+      | then-are_within w ↦ let five = rw lent.same at w.are_apart.ensures in rw w.value-is (five.1 r.apart-five)
+      | else-are_within w ↦ rw w.value-is (within.1 r.bounds)
+    ])

@@ -10,6 +10,3 @@ abbrev pub invariant-loop-i : goal.invariant-loop-i
 invariant-loop-i l =
     (l.i ≤ length (decimal l.n)) × (length l.out ≡ length l.initial.out) × (l.out ≡ put_at l.initial.out (l.at + l.i) (drop l.i (decimal l.n)))
     × (0 < l.i → decimal l.left ≡ take l.i (decimal l.n))
-
-abbrev pub decreases-loop-i : goal.decreases-loop-i
-decreases-loop-i l = l.i

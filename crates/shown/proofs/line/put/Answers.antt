@@ -1,49 +1,48 @@
--- `shown::line::put` meets its contract: there is not the room that is asked for, or it is enough (`line_fits`). A line that is no packet's gives
--- no octets, and those are refused alike. Assumes nothing.
-use mathlib.Core.Path.{sym}
+-- `shown::line::put` meets its contract: there is not the room that is asked for, or it is enough (`line_fits`). Assumes nothing.
+use mathlib.Core.Path.{◌≡◌, sym}
+use Prim.Native.Nat.{◌+◌, ◌-◌, ◌≤◌}
 use native.Mathlib.Omega.{arith}
 use lib.ListN.{length}
 use Rattle.octets.proofs.Buffer.{put_at-nil}
-use Rattle.shown.specs.Line.{line_by, line_room}
-use Rattle.shown.proofs.Laws.Packets.{packet-le, packet-length, line_by-packet}
+use Rattle.shown.specs.Line.{line_by, line_room, fitting}
+use Rattle.shown.proofs.Laws.Packets.{line_by-none, line_by-some}
 use Rattle.shown.proofs.Laws.Fits.{line_fits, fitting-whole, fitting-none}
 use Rattle.shown.proofs.line.put.Goals as goal
+use Rattle.shown.proofs.line.put.Goals.{Else-saturating_sub-line}
 
-pub returns-then-behind-line : goal.returns-then-behind-line
-returns-then-behind-line c =
+pub returns-then-saturating_sub-line : goal.returns-then-saturating_sub-line
+returns-then-saturating_sub-line c =
     let a = c.args in
     rw (fitting-none (line_room a.line.now) (length a.out.now) a.at (line_by a.numbers a.line.now) (omega arith)) (sym (put_at-nil _ _), omega arith)
 
-pub slice_bounds-octets-end : goal.slice_bounds-octets-end
-slice_bounds-octets-end c = packet-le _ c.packet_in-packet.result c.packet_in-packet.ensures
+-- the line is put, and has room
+module _ (c : Else-saturating_sub-line) where
+  whole : fitting (line_room c.args.line.now) (length c.args.out.now) c.args.at (line_by c.args.numbers c.args.line.now) ≡ line_by c.args.numbers c.args.line.now
+  whole = fitting-whole (line_room c.args.line.now) (length c.args.out.now) c.args.at (line_by c.args.numbers c.args.line.now) (omega arith)
 
-pub slice_bounds-read_by-end : goal.slice_bounds-read_by-end
-slice_bounds-read_by-end c = packet-length _ c.packet_in-packet.result c.packet_in-packet.ensures
+  room : c.args.at + length (line_by c.args.numbers c.args.line.now) ≤ length c.args.out.now
+  room = omega (arith, (line_fits c.args.numbers c.args.line.now).1)
 
-pub slice_bounds-octets-end-2 : goal.slice_bounds-octets-end-2
-slice_bounds-octets-end-2 c =
-    let packet = c.packet_in-packet in
-    packet-le _ packet.result packet.ensures
+pub put_refused-requires : goal.put_refused-requires
+put_refused-requires c =
+    let a = c.args in
+    rw (c.number.ensures, ← line_by-none a.numbers a.line.now (rw c.in_default.is at c.packet_in.ensures))
+    (room (goal.at.put_refused-requires c).Else-saturating_sub-line)
 
-pub slice_bounds-put-end : goal.slice_bounds-put-end
-slice_bounds-put-end c =
-    let packet = c.packet_in-packet in
-    packet-length _ packet.result packet.ensures
+pub returns-in_default : goal.returns-in_default
+returns-in_default c =
+    let a = c.args in
+    rw (whole (goal.at.returns-in_default c).Else-saturating_sub-line, line_by-none a.numbers a.line.now (rw c.in_default.is at c.packet_in.ensures), ← c.number.ensures)
+    c.put_refused.ensures
 
 pub put-requires : goal.put-requires
 put-requires c =
     let a = c.args in
-    let packet = c.packet_in-packet in
-    rw (c.read_by-reading.ensures, ← line_by-packet a.numbers a.line.now packet.result packet.ensures)
-    (omega (arith, (line_fits a.numbers a.line.now).1))
+    let line = line_by-some a.numbers a.line.now c.in-Some.packet (rw c.in-Some.is at c.packet_in.ensures) _ c.as_slice-octets.ensures in
+    rw (c.read_by.ensures, ← line) (room (goal.at.put-requires c).Else-saturating_sub-line)
 
 pub returns : goal.returns
 returns c =
     let a = c.args in
-    let packet = c.packet_in-packet in
-    rw (
-      fitting-whole (line_room a.line.now) (length a.out.now) a.at (line_by a.numbers a.line.now) (omega arith),
-      line_by-packet a.numbers a.line.now packet.result packet.ensures,
-      ← c.read_by-reading.ensures,
-    )
-    c.put.ensures
+    let line = line_by-some a.numbers a.line.now c.in-Some.packet (rw c.in-Some.is at c.packet_in.ensures) _ c.as_slice-octets.ensures in
+    rw (whole (goal.at.returns c).Else-saturating_sub-line, line, ← c.read_by.ensures) c.put.ensures

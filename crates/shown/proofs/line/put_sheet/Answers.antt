@@ -7,8 +7,8 @@ use Rattle.shown.specs.Line.{number_line, sheet_line}
 use Rattle.shown.proofs.Laws.Fits.{length-sheet_line, fitting-whole, fitting-none}
 use Rattle.shown.proofs.line.put_sheet.Goals as goal
 
-pub returns-then-behind-length_of : goal.returns-then-behind-length_of
-returns-then-behind-length_of c =
+pub returns-then-saturating_sub-length_of : goal.returns-then-saturating_sub-length_of
+returns-then-saturating_sub-length_of c =
     let a = c.args in
     let line = sheet_line a.line in
     rw (fitting-none (length line) (length a.out.now) a.at line (omega (arith, length-sheet_line a.line))) (sym (put_at-nil _ _), omega arith)

@@ -1,26 +1,12 @@
--- `shown::print::line` meets its contract: a line that is no packet's gives no octets, and those are refused alike. Assumes nothing.
-use Rattle.shown.proofs.Laws.Packets.{packet-le, packet-length, line_by-packet}
+-- `shown::print::line` meets its contract: the text of the packet on the line, or a refusal. Assumes nothing.
+use Rattle.shown.proofs.Laws.Packets.{line_by-none, line_by-some}
 use Rattle.shown.proofs.print.line.Goals as goal
 
-pub slice_bounds-octets-end : goal.slice_bounds-octets-end
-slice_bounds-octets-end c = packet-le _ c.packet_in-packet.result c.packet_in-packet.ensures
-
-pub slice_bounds-read_by-end : goal.slice_bounds-read_by-end
-slice_bounds-read_by-end c = packet-length _ c.packet_in-packet.result c.packet_in-packet.ensures
-
-pub slice_bounds-octets-end-2 : goal.slice_bounds-octets-end-2
-slice_bounds-octets-end-2 c =
-    let packet = c.packet_in-packet in
-    packet-le _ packet.result packet.ensures
-
-pub slice_bounds-reading-end : goal.slice_bounds-reading-end
-slice_bounds-reading-end c =
-    let packet = c.packet_in-packet in
-    packet-length _ packet.result packet.ensures
+pub returns-in_default : goal.returns-in_default
+returns-in_default c =
+    rw (line_by-none c.args.numbers c.args.line.now (rw c.in_default.is at c.packet_in.ensures), ← c.number.ensures) c.refusal.ensures
 
 pub returns : goal.returns
 returns c =
-    let args = c.args in
-    let packet = c.packet_in-packet in
-    rw (line_by-packet args.numbers args.line.now packet.result packet.ensures, ← c.read_by-said.ensures)
+    rw (line_by-some c.args.numbers c.args.line.now c.in-Some.packet (rw c.in-Some.is at c.packet_in.ensures) _ c.as_slice-octets.ensures, ← c.read_by.ensures)
     c.reading.ensures

@@ -1,16 +1,15 @@
 -- `shown::text::length_of` meets its contract: the ten values and an LF, or the refusal on a line. Assumes nothing.
 use native.Mathlib.Omega.{arith}
-use lib.ListN.{length-append}
-use Rattle.shown.specs.Line.{number_line, text_of}
+use Rattle.shown.specs.Line.{text_of}
 use Rattle.shown.proofs.Laws.Values.{text_of-row, length-ten_line}
 use Rattle.shown.proofs.text.length_of.Goals as goal
 
-pub returns-in-Read : goal.returns-in-Read
-returns-in-Read c =
-    let ten = c.row_of in
-    rw (c.in-Read.is, text_of-row c.args.packet.now c.in-Read.message ten.result ten.ensures, length-ten_line) (omega arith)
+pub returns-in-Ok : goal.returns-in-Ok
+returns-in-Ok c =
+    let row = c.row_of in
+    let length = rw c.values_of.ensures at c.length_of.ensures.0 in
+    rw (c.in-Ok.is, text_of-row c.args.packet.now c.in-Ok.message row.result row.ensures, length-ten_line) (omega arith)
 
-pub returns-in-Refused : goal.returns-in-Refused
-unfolding text_of number_line
-returns-in-Refused c =
-    rw c.in-Refused.is (simp length-append (omega arith))
+pub returns-in-Err : goal.returns-in-Err
+unfolding text_of
+returns-in-Err c = rw c.in-Err.is (rw c.number.ensures at c.refused_length.ensures)

@@ -27,4 +27,4 @@ returns-in-Given c = rw c.in-Given.is c.put.ensures
 pub returns-in-Named : goal.returns-in-Named
 unfolding value_text
 returns-in-Named c =
-    rw (c.in-Named.is, ← c.name_in-name.ensures) (c.put_octets.ensures, refl)
+    rw (c.in-Named.is, ← c.octets_of-octets.ensures) (c.put_octets.ensures, refl)

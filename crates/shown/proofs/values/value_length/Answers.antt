@@ -17,6 +17,6 @@ returns-in-Given c = rw c.in-Given.is (c.length_of.ensures.0, omega arith)
 pub returns-in-Named : goal.returns-in-Named
 unfolding value_text
 returns-in-Named c =
-    let value = c.args.value in
-    let n = min-le_left value.len (length (drop value.n c.args.packet.now)) in
-    rw c.in-Named.is (ap length c.name_in.ensures, rw (c.name_in.ensures, length-take) (omega arith))
+    let name = c.in-Named.name in
+    let n = min-le_left name.len (length (drop name.at c.args.packet.now)) in
+    rw c.in-Named.is (ap length c.octets_of.ensures, rw (c.octets_of.ensures, length-take) (omega arith))

@@ -9,7 +9,7 @@ use Rattle.writing.proofs.field_writer.put_user.Goals as goal
 
 pub overflow_sub-at : goal.overflow_sub-at
 unfolding to_word
-overflow_sub-at c = omega (arith, c.field_size-size.ensures)
+overflow_sub-at c = omega (arith, c.size_of-size.ensures)
 
 pub bounds-s-at : goal.bounds-s-at
 unfolding to_word
@@ -17,7 +17,7 @@ bounds-s-at c = omega (arith, c.put_u32.auto.s)
 
 pub overflow_cast-s : goal.overflow_cast-s
 unfolding to_word
-overflow_cast-s c = omega (arith, c.field_size-size.ensures)
+overflow_cast-s c = omega (arith, c.size_of-size.ensures)
 
 pub bounds-s-at-2 : goal.bounds-s-at-2
 unfolding to_word
@@ -27,5 +27,5 @@ pub returns : goal.returns
 unfolding to_word
 returns c =
     let a = c.args in
-    rw c.field_size-size.ensures
-    (rw (c.put_octets.ensures, c.put_u32.ensures, c.field_size-size.ensures) (puts-user a.s.now a.at a.user.now c.requires.1), refl)
+    rw c.size_of-size.ensures
+    (rw (c.put_octets.ensures, c.put_u32.ensures, c.size_of-size.ensures) (puts-user a.s.now a.at a.user.now c.requires.1), refl)

@@ -1,8 +1,0 @@
--- `octets::octet_at` meets its contract: an index below the length is read, and one past it has the default.
--- Assumes nothing.
-use mathlib.Core.Path.{sym}
-use lib.ListN.{get_or-eq_default}
-use Rattle.octets.proofs.octet_at.Goals as goal
-
-pub returns-else-at-s : goal.returns-else-at-s
-returns-else-at-s c = sym (get_or-eq_default c.args.s.now 0 c.if-at-s.false)
