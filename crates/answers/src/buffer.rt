@@ -28,9 +28,11 @@ pub fn write(body: &[u8], room: usize) -> Reply
     let mut buffer = filled();
     let lent = &mut buffer[..room];
     let written = writing::write(sheet, message, behind(body, NAMES), lent).map(|n| n as usize);
-    let reply = question::put_result(Reply::empty(), written).octets(lent);
-    match written {
-        Ok(n) => reply.numbers(&message::row_of(packet::read(sheet, first(lent, n)))),
-        Err(_) => reply,
+    let mut reply = Reply::empty();
+    question::put_result(&mut reply, written);
+    reply.octets(lent);
+    if let Ok(n) = written {
+        reply.numbers(&message::row_of(packet::read(sheet, first(lent, n))));
     }
+    reply
 }

@@ -19,9 +19,12 @@ fn event_octets(event: Event) -> [u8; 4] {
 }
 
 // Puts the refusal's number and line, and the event, zeros where there is none.
-fn put_offered(reply: Reply, offered: Result<Event, Refusal>) -> Reply {
+fn put_offered(reply: &mut Reply, offered: Result<Event, Refusal>) {
     match offered {
-        Ok(event) => reply.numbers(&[0, 0]).octets(&event_octets(event)),
+        Ok(event) => {
+            reply.numbers(&[0, 0]);
+            reply.octets(&event_octets(event));
+        }
         Err(refusal) => reply.numbers(&[refusal.number(), refusal.line(), 0]),
     }
 }
@@ -36,7 +39,7 @@ pub fn events(body: &[u8]) -> Reply {
     };
     let mut reply = Reply::empty();
     for packet in packets.take(MOST / EVENT) {
-        reply = put_offered(reply, incoming::event_of(sheet, users, packet));
+        put_offered(&mut reply, incoming::event_of(sheet, users, packet));
     }
     reply
 }
@@ -74,14 +77,18 @@ fn sending_row(sending: Result<u32, Refusal>) -> [u32; 4] {
 // (an octet each), its cause, and the length of the buffer (two octets each). The answer: what was said, four octets each, and the buffer.
 pub fn packet(body: &[u8]) -> Reply {
     let room = usize::from(octets::u16_at(body, value::LENGTH + 4));
+    let mut reply = Reply::empty();
+    if buffer::ROOM < room {
+        return reply;
+    }
     let mut buffer = buffer::filled();
-    let Some(lent) = buffer.get_mut(..room) else {
-        return Reply::empty();
-    };
+    let lent = &mut buffer[..room];
     let [stream, number, high, low] = octets::u32_at(body, value::LENGTH).to_be_bytes();
     let answer = answer_numbered(number, u16::from_be_bytes([high, low]));
     let sheet = asked::sheet_in(body);
     let users = value::users_in(body);
     let sending = outgoing::packet_of(sheet, users, stream, answer, lent);
-    Reply::empty().numbers(&sending_row(sending)).octets(lent)
+    reply.numbers(&sending_row(sending));
+    reply.octets(lent);
+    reply
 }

@@ -12,25 +12,30 @@ mod question;
 mod step;
 mod value;
 
+use asked::Questions;
 use asked::reply::Reply;
 
-// The answer to one question. A question that is not known has an empty one. (A match on a number, as it comes from outside.)
-fn answer(asked: u8, body: &[u8]) -> Reply {
-    match asked {
-        1 => question::read(body),
-        2 => question::valid(body),
-        3 => question::by_ssrc(body),
-        4 => question::by_user(body),
-        5 => question::is_user_id(body),
-        6 => question::packets(body),
-        7 => question::fields(body),
-        8 => question::write(body),
-        13 => control::events(body),
-        14 => control::packet(body),
-        _ => Reply::empty(),
+struct Answers;
+
+impl Questions for Answers {
+    // The answer to one question. A question that is not known has an empty one. (A match on a number, as it comes from outside.)
+    fn answer(&self, what: u8, octets: &[u8]) -> Reply {
+        match what {
+            1 => question::read(octets),
+            2 => question::valid(octets),
+            3 => question::by_ssrc(octets),
+            4 => question::by_user(octets),
+            5 => question::is_user_id(octets),
+            6 => question::packets(octets),
+            7 => question::fields(octets),
+            8 => question::write(octets),
+            13 => control::events(octets),
+            14 => control::packet(octets),
+            _ => Reply::empty(),
+        }
     }
 }
 
 fn main() {
-    asked::answer_all(answer);
+    asked::answer_all(&Answers);
 }

@@ -9,20 +9,27 @@ use sheet::Refusal;
 use sheet::numbers::{LINES, numbers_of};
 
 // Puts how many octets were read or written (eight octets), and the refusal's number and line (four each), zeros where there is none.
-pub fn put_result(reply: Reply, done: Result<usize, Refusal>) -> Reply {
-    match done {
-        Ok(count) => reply.counts(&[count]).numbers(&[0, 0]),
-        Err(refusal) => reply
-            .counts(&[0])
-            .numbers(&[refusal.number(), refusal.line()]),
-    }
+pub fn put_result(reply: &mut Reply, done: Result<usize, Refusal>) {
+    let (count, refused) = match done {
+        Ok(count) => (count, [0, 0]),
+        Err(refusal) => (0, [refusal.number(), refusal.line()]),
+    };
+    reply.counts(&[count]);
+    reply.numbers(&refused);
+}
+
+// An answer of so few octets.
+fn short(octets: &[u8]) -> Reply {
+    let mut reply = Reply::empty();
+    reply.octets(octets);
+    reply
 }
 
 // A seat: 1 and its number; 0 and 0 for nobody.
 fn seat(found: Option<u8>) -> Reply {
     match found {
-        Some(s) => Reply::empty().octets(&[1, s]),
-        None => Reply::empty().octets(&[0, 0]),
+        Some(s) => short(&[1, s]),
+        None => short(&[0, 0]),
     }
 }
 
@@ -33,17 +40,18 @@ pub fn read(text: &[u8]) -> Reply {
         Ok(read) => numbers_of(read.sheet),
         Err(_) => [0; LINES],
     };
-    let reply = Reply::empty()
-        .numbers(&numbers)
-        .octets(sheet_text::users(text).as_flattened());
-    put_result(reply, reading.map(|read| read.used))
+    let mut reply = Reply::empty();
+    reply.numbers(&numbers);
+    reply.octets(sheet_text::users(text).as_flattened());
+    put_result(&mut reply, reading.map(|read| read.used));
+    reply
 }
 
 // 2: whether some sheet reads to a value's numbers; and to the whole value.
 pub fn valid(body: &[u8]) -> Reply {
     let sheet = asked::sheet_in(body);
     let whole = seats::valid_with(sheet, &value::users_in(body));
-    Reply::empty().octets(&[u8::from(sheet::valid(sheet)), u8::from(whole)])
+    short(&[u8::from(sheet::valid(sheet)), u8::from(whole)])
 }
 
 // 3: whose SSRC it is that follows a value.
@@ -69,7 +77,7 @@ pub fn by_user(body: &[u8]) -> Reply {
 
 // 5: whether a body can be a User ID.
 pub fn is_user_id(body: &[u8]) -> Reply {
-    Reply::empty().octets(&[u8::from(seats::user::is_user_id(body))])
+    short(&[u8::from(seats::user::is_user_id(body))])
 }
 
 // 6: what each packet reads to under the numbers of a value. The packets stand behind those, each behind its count.
@@ -80,7 +88,7 @@ pub fn packets(body: &[u8]) -> Reply {
     };
     let mut reply = Reply::empty();
     for packet in packets.take(MOST / message::LENGTH) {
-        reply = reply.numbers(&message::row_of(packet::read(sheet, packet)));
+        reply.numbers(&message::row_of(packet::read(sheet, packet)));
     }
     reply
 }
@@ -95,8 +103,8 @@ pub fn fields(body: &[u8]) -> Reply {
     let (places, _) = rest.as_chunks::<8>();
     for place in places.iter().take(MOST / (2 * step::LENGTH)) {
         let at = usize::from_be_bytes(*place);
-        let stands = step::put_step(reply, fields::field::field_at(octets, at));
-        reply = step::put_step(stands, field_reader::field_in(octets, at));
+        step::put_step(&mut reply, fields::field::field_at(octets, at));
+        step::put_step(&mut reply, field_reader::field_in(octets, at));
     }
     reply
 }

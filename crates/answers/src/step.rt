@@ -8,10 +8,10 @@ use sheet::Refusal;
 pub const LENGTH: usize = 40;
 
 // Puts what is said of a place.
-pub fn put_step(reply: Reply, said: Result<Option<Field>, Refusal>) -> Reply {
+pub fn put_step(reply: &mut Reply, said: Result<Option<Field>, Refusal>) {
     reply.counts(&match said {
         Ok(Some(field)) => [1, field.at, usize::from(field.id), field.len, field.next],
         Ok(None) => [2, 0, 0, 0, 0],
         Err(refusal) => [3, refusal.number() as usize, refusal.line() as usize, 0, 0],
-    })
+    });
 }

@@ -21,43 +21,51 @@ pub const MOST: usize = 1020;
 // How many octets the numbers of a sheet's value take: eleven and eight SSRCs.
 pub const NUMBERS: usize = 4 * LINES;
 
-// A case: what is asked, and its octets.
+// What is asked, and how many octets of its case there are.
 #[derive(Clone, Copy)]
-struct Case<'a> {
-    what: u8,
-    octets: &'a [u8],
+pub struct Asked {
+    pub what: u8,
+    pub length: usize,
 }
 
 // Reads the next case, its octets into the front of body. A case too long for body counts as one that asks nothing.
-fn next(body: &mut [u8]) -> Case<'_>
-    ensures { length result.octets.now ≤ length body.old }
+pub fn next(body: &mut [u8]) -> Asked
+    ensures { (length body.new ≡ length body.old) × (result.length ≤ length body.old) }
 {
     let mut head = [0u8; 5];
     io::read_full(0, &mut head);
     let length = u32_at(&head, 1) as usize;
     if body.len() < length {
-        return Case {
-            what: 0,
-            octets: &[],
-        };
+        return Asked { what: 0, length: 0 };
     }
-    let read = io::read_full(0, &mut body[..length]);
-    Case {
+    Asked {
         what: head[0],
-        octets: &body[..read],
+        length: io::read_full(0, &mut body[..length]),
     }
 }
 
-// Answers all cases of standard input: each with what `answer` says of what is asked and of its octets.
-pub fn answer_all<F: Fn(u8, &[u8]) -> Reply>(answer: F)
-    requires { F.IsAlwaysCallable answer }
-{
+// Writes an answer's length and the answer: so many octets, or all where there are not so many.
+pub fn write(octets: &[u8], length: usize) {
+    let answer = octets.get(..length).unwrap_or(octets);
+    io::write_all(1, &((answer.len() % 4294967296) as u32).to_be_bytes());
+    io::write_all(1, answer);
+}
+
+// A program's questions.
+pub trait Questions {
+    // The answer to what is asked, of the octets of a case.
+    fn answer(&self, what: u8, octets: &[u8]) -> Reply;
+}
+
+// Answers all cases of standard input.
+pub fn answer_all<Q: Questions>(questions: &Q) {
     let mut count = [0u8; 4];
     io::read_full(0, &mut count);
     let mut body = io::large_buffer();
     for _ in 0..u32::from_be_bytes(count) {
-        let case = next(&mut body);
-        answer(case.what, case.octets).write();
+        let asked = next(&mut body);
+        let reply = questions.answer(asked.what, &body[..asked.length]);
+        write(reply.as_slice(), MOST);
     }
 }
 

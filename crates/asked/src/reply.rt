@@ -29,40 +29,31 @@ impl Reply {
         &self.octets[..self.len]
     }
 
-    pub fn octets(mut self, octets: &[u8]) -> Reply
-        ensures { octets≡ self octets.now result }
+    pub fn octets(&mut self, octets: &[u8])
+        ensures { octets≡ self.old octets.now self.new }
     {
         let start = self.len;
         let fit = octets.len().min(MOST - start);
         let end = start + fit;
         self.octets[start..end].copy_from_slice(&octets[..fit]);
         self.len = end;
-        self
     }
 
     // Numbers of four octets each.
-    pub fn numbers(mut self, numbers: &[u32]) -> Reply
-        ensures { numbers≡ self numbers.now result }
+    pub fn numbers(&mut self, numbers: &[u32])
+        ensures { numbers≡ self.old numbers.now self.new }
     {
         for n in numbers {
-            self = self.octets(&n.to_be_bytes());
+            self.octets(&n.to_be_bytes());
         }
-        self
     }
 
     // Numbers of eight octets each.
-    pub fn counts(mut self, counts: &[usize]) -> Reply
-        ensures { counts≡ self counts.now result }
+    pub fn counts(&mut self, counts: &[usize])
+        ensures { counts≡ self.old counts.now self.new }
     {
         for count in counts {
-            self = self.octets(&count.to_be_bytes());
+            self.octets(&count.to_be_bytes());
         }
-        self
-    }
-
-    // Writes how many octets the answer has, and these.
-    pub(crate) fn write(&self) {
-        io::write_all(1, &(self.len as u32).to_be_bytes());
-        io::write_all(1, self.as_slice());
     }
 }

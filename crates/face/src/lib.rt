@@ -207,7 +207,10 @@ pub extern "C" fn mcv_count(sheet: &[u32], records: &[u8], stream: u32, count: &
 fn work_out(sheet: &[u32], seen: &[u8], event: &[u32], attempt: &mut [u32]) -> Result<(), Refusal>
     ensures { mcv_work_out≡ sheet.now seen.now event.now attempt.old (told result) attempt.new }
 {
-    let (Some(own), Some(given)) = (record_in(seen), event_in(event)) else {
+    let Some(own) = record_in(seen) else {
+        return Err(misfit(sheet));
+    };
+    let Some(given) = event_in(event) else {
         return Err(misfit(sheet));
     };
     let worked = reception::work_out_lent(sheet, own, given)?;
@@ -236,9 +239,11 @@ fn store(
 ) -> Result<(), Refusal>
     ensures { mcv_store≡ sheet.now attempt.now records.old answer.old (told result) records.new answer.new }
 {
-    let given = match attempt_in(attempt) {
-        Some(given) if are_records(records) => given,
-        _ => return Err(misfit(sheet)),
+    if !are_records(records) {
+        return Err(misfit(sheet));
+    }
+    let Some(given) = attempt_in(attempt) else {
+        return Err(misfit(sheet));
     };
     let stream = given.stream;
     let wanted = given.wanted;

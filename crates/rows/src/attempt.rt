@@ -43,13 +43,13 @@ pub fn put_attempt(out: &mut [u32], attempt: Attempt) -> Result<(), Refusal>
 pub fn attempt_in(row: &[u32]) -> Option<Attempt>
     ensures { attempt_in≡ row.now result }
 {
-    let [stream, seen, before, wanted, after, given @ ..] = row else {
+    let [stream, seen, before, wanted, after, _, _, _, _, _, _] = row else {
         return None;
     };
     Some(Attempt {
         stream: u8::try_from(*stream).ok()?,
         seen: record_in(*seen, *before)?,
         wanted: record_in(*wanted, *after)?,
-        answer: answer_in(given)?,
+        answer: answer_in(&row[GIVEN..])?,
     })
 }

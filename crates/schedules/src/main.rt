@@ -6,6 +6,17 @@ mod question;
 mod routine;
 mod said;
 
+use asked::Questions;
+use asked::reply::Reply;
+
+struct Schedules;
+
+impl Questions for Schedules {
+    fn answer(&self, what: u8, octets: &[u8]) -> Reply {
+        question::answer(what, octets)
+    }
+}
+
 fn main() {
-    asked::answer_all(question::answer);
+    asked::answer_all(&Schedules);
 }

@@ -53,10 +53,9 @@ fn first(body: &[u8]) -> State {
 }
 
 // What a step said, and behind it the records.
-fn put_step(reply: Reply, state: State, said: Result<Said, Refusal>) -> Reply {
-    reply
-        .octets(&said::or_refused(said))
-        .octets(&said::octets_of(state.records))
+fn put_step(reply: &mut Reply, state: &State, said: Result<Said, Refusal>) {
+    reply.octets(&said::or_refused(said));
+    reply.octets(&said::octets_of(state.records));
 }
 
 // 9: what an event makes of the record seen before it, under the numbers of a value. Answer: what the working-out says.
@@ -67,7 +66,7 @@ fn attempts(body: &[u8]) -> Reply {
         let mut state = first;
         state.one.seen = records::record_at(item, 0);
         let said = state.works_out(Which::One, said::event_at(item, RECORD));
-        reply = reply.octets(&said::or_refused(said));
+        reply.octets(&said::or_refused(said));
     }
     reply
 }
@@ -95,7 +94,7 @@ fn steps(body: &[u8]) -> Reply {
     let mut reply = Reply::empty();
     for item in items::<STEP>(body, START, STEPS) {
         let said = step(&mut state, item);
-        reply = put_step(reply, state, said);
+        put_step(&mut reply, &state, said);
     }
     reply
 }
@@ -121,16 +120,14 @@ fn moved(
 
 // A schedule: two routines with two events each, from the eight records that stand behind the numbers of a value. Events 0 and 1 are one routine's, 2
 // and 3 the other's; a move is twice its event's place, where the routine reads and works out, and one more where it stores.
-fn put_schedule(mut reply: Reply, mut state: State, item: &[u8; SCHEDULE]) -> Reply {
+fn put_schedule(reply: &mut Reply, mut state: State, item: &[u8; SCHEDULE]) {
     let mut saids = [[0; SAID]; 4];
     for next in &item[EVENTS..] {
         let k = usize::from(next / 2 % 4);
         saids[k] = said::or_refused(moved(&mut state, item, k, next % 2 == 1));
     }
-    for said in &saids {
-        reply = reply.octets(said);
-    }
-    reply.octets(&said::octets_of(state.records))
+    reply.octets(saids.as_flattened());
+    reply.octets(&said::octets_of(state.records));
 }
 
 // 11: such schedules. Answer: what the last move of each event says, and the records after all.
@@ -138,7 +135,7 @@ fn schedules(body: &[u8]) -> Reply {
     let first = first(body);
     let mut reply = Reply::empty();
     for item in items::<SCHEDULE>(body, START, SCHEDULES) {
-        reply = put_schedule(reply, first, item);
+        put_schedule(&mut reply, first, item);
     }
     reply
 }
@@ -161,7 +158,7 @@ fn stores(body: &[u8]) -> Reply {
         let mut state = first;
         state.one.attempt = attempt_in(item);
         let said = state.stores(Which::One);
-        reply = put_step(reply, state, said);
+        put_step(&mut reply, &state, said);
     }
     reply
 }

@@ -7,12 +7,8 @@ use sheet::WIDTH;
 pub fn visible_end(text: &[u8], at: usize) -> usize
     ensures { visible_end≡ text.now at result }
 {
-    for i in at..text.len() {
-        if !text[i].is_ascii_graphic() {
-            return i;
-        }
-    }
-    at.max(text.len())
+    let rest = &text[at.min(text.len())..];
+    at + rest.iter().take_while(|c| c.is_ascii_graphic()).count()
 }
 
 // Whether these octets can be a User ID.

@@ -97,7 +97,8 @@ fn tail(text: &[u8], at: usize, k: usize) -> Option<Rest>
     is_at(text, end, LF).then_some(Rest { name, end })
 }
 
-// The line at a place, as line k.
+// The line at a place, as line k. (Inlined, as is `judged` of sheet_text: the answer of each line does not go through memory.)
+#[inline(always)]
 pub fn line_at(text: &[u8], at: usize, k: usize) -> Option<Line>
     ensures { line_at≡ text.now at k result }
 {

@@ -13,7 +13,8 @@ use sheet::numbers::{
 use sheet::{Refusal, SEATS, Sheet, Users};
 use sheet_line::{Line, line_at};
 
-// The line at a place as line k, judged against the numbers and the User IDs of the lines before it; a bad or missing one is named.
+// The line at a place as line k, judged against the numbers and the User IDs of the lines before it; a bad or missing one is named. (Inlined, as `line_at` is.)
+#[inline(always)]
 fn judged(
     text: &[u8],
     at: usize,

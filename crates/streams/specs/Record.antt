@@ -1,5 +1,6 @@
 -- The stream record (document 01, "Stream record"): "A phase and a byte of receivers, bit r for seat r". The event
--- table makes, counts, compares and judges records by the definitions of this file alone. Assumes nothing.
+-- table makes, counts, compares and judges records by the definitions of this file alone; the derived `==` of the code is
+-- `same_record` (`same-said` of proofs/Laws/Records). Assumes nothing.
 use Rattle.std.specs.Prelude.{ℕ, ◌+◌, ◌-◌, ◌/◌, ◌%◌, ◌^◌, Bool, not, ◌&&◌, List, [], ◌∷◌, get_or, replicate, Result, Ok, Err, eqb, leb, ltb}
 use Rattle.std.specs.Int.Count.{ones}
 use Rattle.octets.specs.Choice.{pick}

@@ -1,4 +1,4 @@
-// A stream's record (document 01, "Stream record"): made, judged and compared here; `rows` alone makes one of its octets too.
+// A stream's record (document 01, "Stream record"): made and judged here, compared by the derived `==`; `rows` alone makes one of its octets too.
 ghost use Rattle.std.specs.Prelude.{◌≡◌};
 ghost use Rattle.streams.specs.Record.{idle, watched, ending, good_receivers};
 ghost use Rattle.streams.specs.Promises.{is_on≡, free≡, count_of≡, is_legal≡};

@@ -20,23 +20,22 @@ use Rattle.rows.specs.Lent.{told}
 use Rattle.rows.specs.Promises.{Rowed, record_at≡}
 use Rattle.rows.proofs.Laws.Records.{is-some, own-known}
 use Rattle.rows.proofs.Laws.Put.{told-refused}
-use Rattle.face.specs.Calls.{store_says}
-use Rattle.face.proofs.Laws.Told.{keeps-refused, keeps-misfit, misfit_said}
+use Rattle.face.proofs.Laws.Told.{keeps-refused, keeps-misfit}
 use Rattle.face.proofs.Laws.Off.{trying-some, trying-none}
 use Rattle.face.proofs.Laws.Steps.{store-unread, store_given, store_never, answered-length, answered-part, taken, refused_says, kept-octets, keeps-gives, keeps-short}
-use Rattle.face.proofs.store.Goals.{in_default-via-in-Some+else-are_records, in_default-via-in_default}
 use Rattle.face.proofs.store.Goals as goal
+
+pub returns-then-not-are_records : goal.returns-then-not-are_records
+returns-then-not-are_records c =
+    let a = c.args in
+    keeps-misfit (sheet_in a.sheet.now) _ a.records.now a.answer.now _ c.misfit.ensures
+    (store-unread a.sheet.now a.attempt.now a.records.now (sym c.are_records.ensures ∙ c.if-not-are_records.true))
 
 pub returns-in_default : goal.returns-in_default
 returns-in_default c =
     let a = c.args in
-    let says : store_says a.sheet.now a.attempt.now a.records.now ≡ misfit_said (sheet_in a.sheet.now) =
-    elim c.in_default.branch [
-      | in_default-via-in-Some+else-are_records w ↦ store-unread a.sheet.now a.attempt.now a.records.now (sym w.are_records.ensures ∙ w.if-are_records.false)
-      | in_default-via-in_default w ↦
-          store_never a.sheet.now a.attempt.now a.records.now (trying-none a.attempt.now _ c.attempt_in.ensures w.in_default.is)
-    ] in
-    keeps-misfit (sheet_in a.sheet.now) _ a.records.now a.answer.now _ c.misfit.ensures says
+    keeps-misfit (sheet_in a.sheet.now) _ a.records.now a.answer.now _ c.misfit-in_default.ensures
+    (store_never a.sheet.now a.attempt.now a.records.now (trying-none a.attempt.now _ c.attempt_in.ensures c.in_default.is))
 
 -- what is said of the stream's own record
 says : (s : Sheet) (a : Attempt) (octets : List ℕ) (x : Record) (r : Result Answer Refusal) (rs : List Record)
@@ -47,7 +46,7 @@ pub returns-in_err-settle_lent : goal.returns-in_err-settle_lent
 returns-in_err-settle_lent c =
     let a = c.args in
     let x = c.in-Some.given in
-    let are = is-some (records_in 8 a.records.now) (sym c.are_records.ensures ∙ c.if-are_records.true) in
+    let are = is-some (records_in 8 a.records.now) (sym c.are_records.ensures ∙ c.if-not-are_records.false) in
     let held = trying-some a.attempt.now _ x c.attempt_in.ensures c.in-Some.is in
     let said = says (sheet_in a.sheet.now) x a.records.now _ _ are.0 c.record_at.ensures c.settle_lent.ensures are.1 in
     let bad : c.from_residual.result ≡ Err c.in_err-settle_lent.field-0.0 = search rules in
@@ -71,7 +70,7 @@ pub returns-in_err-put : goal.returns-in_err-put
 returns-in_err-put c =
     let a = c.args in
     let x = c.in-Some.given in
-    let are = is-some (records_in 8 a.records.now) (sym c.are_records.ensures ∙ c.if-are_records.true) in
+    let are = is-some (records_in 8 a.records.now) (sym c.are_records.ensures ∙ c.if-not-are_records.false) in
     let held = trying-some a.attempt.now _ x c.attempt_in.ensures c.in-Some.is in
     let said = says (sheet_in a.sheet.now) x a.records.now _ _ are.0 c.record_at.ensures c.settle_lent.ensures are.1 in
     let kept = taken _ x are.0 c.settle_lent.result _ said c.in_ok-settle_lent.was in
@@ -86,7 +85,7 @@ pub returns : goal.returns
 returns c =
     let a = c.args in
     let x = c.in-Some.given in
-    let are = is-some (records_in 8 a.records.now) (sym c.are_records.ensures ∙ c.if-are_records.true) in
+    let are = is-some (records_in 8 a.records.now) (sym c.are_records.ensures ∙ c.if-not-are_records.false) in
     let held = trying-some a.attempt.now _ x c.attempt_in.ensures c.in-Some.is in
     let said = says (sheet_in a.sheet.now) x a.records.now _ _ are.0 c.record_at.ensures c.settle_lent.ensures are.1 in
     let kept = taken _ x are.0 c.settle_lent.result _ said c.in_ok-settle_lent.was in

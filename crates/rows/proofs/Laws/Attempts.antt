@@ -67,11 +67,11 @@ both_none : {A B C : Type 0} (f : A → B → C) (a : Option A) → both f a non
 both_none f none = refl
 both_none f (some x) = refl
 
--- fewer numbers than five have no answer behind them
-pub attempt_uncounted : (row : List ℕ) → length row < 5 → try_held row ≡ none
+-- numbers that are not eleven have no answer behind the first five
+pub attempt_uncounted : (row : List ℕ) → (length row ≡ 11 → ⊥) → try_held row ≡ none
 unfolding try_in try_held
 attempt_uncounted row h =
-    held-nothing (octets_at _ row) _ (rw (answer_uncounted (drop 5 row) (λ e. omega (arith, length-drop 5 row))) (both_none _ _))
+    held-nothing (octets_at _ row) _ (rw (answer_uncounted (drop 5 row) (λ e. h (omega (arith, e, length-drop 5 row)))) (both_none _ _))
 
 -- ---- the attempt that is made of them
 

@@ -2,6 +2,7 @@
 use mathlib.Core.Path.{◌≡◌, sym, ap, ◌∙◌}
 use mathlib.Core.List.{List}
 use Prim.Native.Nat.{ℕ, ◌-◌}
+use native.Mathlib.Omega.{arith}
 use Rattle.std.specs.Prelude.{Option}
 use lib.ListN.{length, take, drop}
 use Rattle.streams.specs.declared.Answer.{Answer}
@@ -12,7 +13,10 @@ use Rattle.rows.proofs.Laws.Attempts.{part_end, attempt_uncounted, stream-unheld
 use Rattle.rows.proofs.attempt.attempt_in.Goals as goal
 
 pub returns-in_default : goal.returns-in_default
-returns-in_default c = sym (attempt_uncounted c.args.row.now c.in_default.len_below)
+returns-in_default c = sym (attempt_uncounted c.args.row.now (λ e. omega (arith, e, c.in_default.len_below)))
+
+pub returns-in_default-2 : goal.returns-in_default-2
+returns-in_default-2 c = sym (attempt_uncounted c.args.row.now (λ e. omega (arith, e, c.in_default.len_at_least)))
 
 pub returns-in_err-ok : goal.returns-in_err-ok
 returns-in_err-ok c =

@@ -8,18 +8,18 @@ use Rattle.asked.proofs.reply.Reply.numbers.Goals as goal
 
 pub loop-n-init : goal.loop-n-init
 loop-n-init c =
-    let reply = c.args.self in
+    let reply = c.args.self.now in
     words_start 4 (said reply) c.args.numbers.now (omega (arith, length-take-le reply.len reply.octets (omega arith)))
 
 pub loop-n-preserved : goal.loop-n-preserved
 loop-n-preserved c =
     let l = c.loop-n in
-    c.octets-self.ensures
-    ∙ words_more 4 (said l.self) (said c.args.self) c.args.numbers.now c.to_be_bytes.result l.n-index _ l.invariant c.loop-n-test.true refl
+    c.octets.ensures
+    ∙ words_more 4 (said l.self) (said c.args.self.now) c.args.numbers.now c.to_be_bytes.result l.n-index _ l.invariant c.loop-n-test.true refl
     (c.to_be_bytes.ensures ∙ big_of-four _)
 
 pub returns : goal.returns
 returns c =
     let l = c.loop-n in
     let all : l.n-index ≡ length c.args.numbers.now = omega arith in
-    (rw all at l.invariant) ∙ words_end 4 (said c.args.self) c.args.numbers.now
+    (rw all at l.invariant) ∙ words_end 4 (said c.args.self.now) c.args.numbers.now

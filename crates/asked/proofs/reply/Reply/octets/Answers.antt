@@ -6,7 +6,7 @@ use Rattle.asked.proofs.reply.Reply.octets.Goals as goal
 
 pub returns : goal.returns
 returns c =
-    let reply = c.args.self in
+    let reply = c.args.self.now in
     let more = c.args.octets.now in
     let row : length reply.octets ≡ 1020 = omega arith in
     take-put_mid reply.len _ reply.octets c.copy_from_slice.new.self _ (omega arith) (omega arith)
