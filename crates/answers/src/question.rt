@@ -18,8 +18,8 @@ pub fn put_result(reply: &mut Reply, done: Result<usize, Refusal>) {
     reply.numbers(&refused);
 }
 
-// An answer of so few octets.
-fn short(octets: &[u8]) -> Reply {
+// The answer that says these octets.
+fn saying(octets: &[u8]) -> Reply {
     let mut reply = Reply::empty();
     reply.octets(octets);
     reply
@@ -28,8 +28,8 @@ fn short(octets: &[u8]) -> Reply {
 // A seat: 1 and its number; 0 and 0 for nobody.
 fn seat(found: Option<u8>) -> Reply {
     match found {
-        Some(s) => short(&[1, s]),
-        None => short(&[0, 0]),
+        Some(s) => saying(&[1, s]),
+        None => saying(&[0, 0]),
     }
 }
 
@@ -51,7 +51,7 @@ pub fn read(text: &[u8]) -> Reply {
 pub fn valid(body: &[u8]) -> Reply {
     let sheet = asked::sheet_in(body);
     let whole = seats::valid_with(sheet, &value::users_in(body));
-    short(&[u8::from(sheet::valid(sheet)), u8::from(whole)])
+    saying(&[u8::from(sheet::valid(sheet)), u8::from(whole)])
 }
 
 // 3: whose SSRC it is that follows a value.
@@ -77,7 +77,7 @@ pub fn by_user(body: &[u8]) -> Reply {
 
 // 5: whether a body can be a User ID.
 pub fn is_user_id(body: &[u8]) -> Reply {
-    short(&[u8::from(seats::user::is_user_id(body))])
+    saying(&[u8::from(seats::user::is_user_id(body))])
 }
 
 // 6: what each packet reads to under the numbers of a value. The packets stand behind those, each behind its count.
